@@ -1,0 +1,229 @@
+-- Laws of lists.
+--   all-at all-is every-is        a computed test gives a fact of each number, of each member
+--   Every Any                     a property of all members, of some member
+--   total-..                      sums
+--   Different count counted at-most   different numbers, and how many there are below a bound
+--   padded-..                     a buffer filled from its front
+use mathlib.Core.Path.{_≡_, refl, sym, ap, _∙_, subst}
+use mathlib.Core.Bool.{Bool, true, false, cond, not, _&&_, _||_, or-assoc, or-false}
+use mathlib.Core.List.{List, [], _∷_, _++_, map, append-assoc}
+use mathlib.Core.Logic.{_⊎_, inl, inr, ⊎-elim, _≢_}
+use Prim.Native.Nat.{ℕ, zero, suc, _+_, _-_, _≤_, _<_}
+use native.Mathlib.Nat.{le-refl, le-trans, eq-or-lt-of-le}
+use native.Mathlib.Omega.{arith}
+use borrow.Author.Tests.{eq-eqb, ne-eqb, eqb-true, not-true}
+use lib.Dec.{eqb, ltb, leb}
+use lib.ListN.{getD, length, set, replicate, length-append, length-replicate}
+use Rattle.definitions.specs.Lists.{all, every, mem, different, total, padded}
+use Rattle.basics.specs.Tests.{clash, and-left, and-right, and-both, or-left, or-right, below-suc, Order, less, more, order, Truth, holds, fails, truth, Equal, equal, differ, equality}
+
+-- ---- a computed test
+
+pub all-at : (p : ℕ → Bool) (n : ℕ) → all p n ≡ true → (i : ℕ) → i < n → p i ≡ true
+unfolding all
+all-at p zero h i l = let z : _≡_ {A = ℕ} 0 1 = omega arith in cc
+all-at p (suc n) h i l = go (all-at p n (and-left (all p n) (p n) h) i) (eq-or-lt-of-le l)
+  where
+    go : (i < n → p i ≡ true) → (suc i ≡ suc n) ⊎ (suc i < suc n) → p i ≡ true
+    go f (inl q) = let z : i ≡ n = omega arith in rw z (and-right (all p n) (p n) h)
+    go f (inr q) = f (omega arith)
+
+pub all-is : (p : ℕ → Bool) (n : ℕ) → ((i : ℕ) → i < n → p i ≡ true) → all p n ≡ true
+unfolding all
+all-is p zero f = refl
+all-is p (suc n) f = and-both (all p n) (p n) (all-is p n (λ i l. f i (omega arith))) (f n (omega arith))
+
+-- ---- a property of all members
+
+abbrev pub Every : {A : Type 0} → (A → Type 0) → List A → Type 0
+Every P [] = Unit {0}
+Every P (x ∷ xs) = P x × Every P xs
+
+pub every-is : {A : Type 0} (p : A → Bool) (P : A → Type 0) → ((x : A) → p x ≡ true → P x) → (xs : List A) → every p xs ≡ true → Every P xs
+unfolding every
+every-is p P f [] h = tt
+every-is p P f (x ∷ xs) h = (f x (and-left (p x) (every p xs) h), every-is p P f xs (and-right (p x) (every p xs) h))
+
+module _ {A : Type 0} where
+  pub every-at : (P : A → Type 0) (xs : List A) → Every P xs → (i : ℕ) (d : A) → i < length xs → P (getD xs i d)
+  every-at P [] h i d l = absurd (omega arith)
+  every-at P (x ∷ xs) h zero d l = h .0
+  every-at P (x ∷ xs) h (suc i) d l = every-at P xs (h .1) i d (omega arith)
+
+  pub every-set : (P : A → Type 0) (xs : List A) (i : ℕ) (y : A) → Every P xs → P y → Every P (set xs i y)
+  every-set P [] i y h p = tt
+  every-set P (x ∷ xs) zero y h p = (p, h .1)
+  every-set P (x ∷ xs) (suc i) y h p = (h .0, every-set P xs i y (h .1) p)
+
+  pub every-snoc : (P : A → Type 0) (xs : List A) (x : A) → Every P xs → P x → Every P (xs ++ x ∷ [])
+  every-snoc P [] x h p = (p, tt)
+  every-snoc P (y ∷ xs) x h p = (h .0, every-snoc P xs x (h .1) p)
+
+  pub every-append : (P : A → Type 0) (xs ys : List A) → Every P xs → Every P ys → Every P (xs ++ ys)
+  every-append P [] ys h k = k
+  every-append P (x ∷ xs) ys h k = (h .0, every-append P xs ys (h .1) k)
+
+  pub every-imp : (P Q : A → Type 0) (xs : List A) → ((x : A) → P x → Q x) → Every P xs → Every Q xs
+  every-imp P Q [] f h = tt
+  every-imp P Q (x ∷ xs) f h = (f x (h .0), every-imp P Q xs f (h .1))
+
+  -- place by place
+  pub every-all : (P : A → Type 0) (xs : List A) (d : A) → ((i : ℕ) → i < length xs → P (getD xs i d)) → Every P xs
+  every-all P [] d f = tt
+  every-all P (x ∷ xs) d f = (f 0 (omega arith), every-all P xs d (λ i l. f (suc i) (omega arith)))
+
+pub every-map : {A B : Type 0} (P : A → Type 0) (Q : B → Type 0) (f : A → B) (xs : List A) → ((x : A) → P x → Q (f x)) → Every P xs → Every Q (map f xs)
+every-map P Q f [] g h = tt
+every-map P Q f (x ∷ xs) g h = (g x (h .0), every-map P Q f xs g (h .1))
+
+pub map-same : {A B : Type 0} (f : A → A) (h : A → B) (xs : List A) → ((x : A) → h (f x) ≡ h x) → map h (map f xs) ≡ map h xs
+map-same f h [] e = refl
+map-same f h (x ∷ xs) e = rw (e x, map-same f h xs e)
+
+pub map-back : {A B : Type 0} (f : A → B) (h : B → A) (xs : List A) → ((x : A) → h (f x) ≡ x) → map h (map f xs) ≡ xs
+map-back f h [] e = refl
+map-back f h (x ∷ xs) e = rw (e x, map-back f h xs e)
+
+-- ---- a property of some member
+
+abbrev pub Any : {A : Type 0} → (A → Type 0) → List A → Type 0
+Any P [] = ⊥
+Any P (x ∷ xs) = P x ⊎ Any P xs
+
+module _ {A : Type 0} where
+  pub any-at : (P : A → Type 0) (xs : List A) (i : ℕ) (d : A) → i < length xs → P (getD xs i d) → Any P xs
+  any-at P [] i d l h = absurd (omega arith)
+  any-at P (x ∷ xs) zero d l h = inl h
+  any-at P (x ∷ xs) (suc i) d l h = inr (any-at P xs i d (omega arith) h)
+
+  -- the place of such a member
+  pub record Some (P : A → Type 0) (xs : List A) (d : A) : Type 0 where
+    pub number : ℕ
+    pub number-in : number < length xs
+    pub here : P (getD xs number d)
+
+  pub at-any : (P : A → Type 0) (xs : List A) (d : A) → Any P xs → Some P xs d
+  at-any P [] d h = absurd h
+  at-any P (x ∷ xs) d (inl h) = record { number = 0; number-in = omega arith; here = h }
+  at-any P (x ∷ xs) d (inr h) = let s = at-any P xs d h in record { number = suc (s .number); number-in = omega (arith, s .number-in); here = s .here }
+
+  pub any-left : (P : A → Type 0) (xs ys : List A) → Any P xs → Any P (xs ++ ys)
+  any-left P [] ys h = absurd h
+  any-left P (x ∷ xs) ys (inl h) = inl h
+  any-left P (x ∷ xs) ys (inr h) = inr (any-left P xs ys h)
+
+  pub any-right : (P : A → Type 0) (xs ys : List A) → Any P ys → Any P (xs ++ ys)
+  any-right P [] ys h = h
+  any-right P (x ∷ xs) ys h = inr (any-right P xs ys h)
+
+  pub any-cases : (P : A → Type 0) (xs ys : List A) → Any P (xs ++ ys) → Any P xs ⊎ Any P ys
+  any-cases P [] ys h = inr h
+  any-cases P (x ∷ xs) ys (inl h) = inl (inl h)
+  any-cases P (x ∷ xs) ys (inr h) = ⊎-elim (λ (k : Any P xs). inl (inr k)) (λ (k : Any P ys). inr k) (any-cases P xs ys h)
+
+pub any-map : {A B : Type 0} (P : A → Type 0) (Q : B → Type 0) (f : A → B) (xs : List A) → ((x : A) → P x → Q (f x)) → Any P xs → Any Q (map f xs)
+any-map P Q f [] g h = h
+any-map P Q f (x ∷ xs) g (inl h) = inl (g x h)
+any-map P Q f (x ∷ xs) g (inr h) = inr (any-map P Q f xs g h)
+
+-- one of the images: with a property of all members
+pub any-back : {A B : Type 0} (E : A → Type 0) (Q : B → Type 0) (R : Type 0) (f : A → B) (xs : List A) → ((x : A) → E x → Q (f x) → R) → Every E xs → Any Q (map f xs) → R
+any-back E Q R f [] g e h = absurd h
+any-back E Q R f (x ∷ xs) g e (inl h) = g x (e .0) h
+any-back E Q R f (x ∷ xs) g e (inr h) = any-back E Q R f xs g (e .1) h
+
+-- ---- sums
+
+module _ {A : Type 0} where
+  pub total-set : (f : A → ℕ) (xs : List A) (i : ℕ) (y d : A) → i < length xs → total (map f (set xs i y)) + f (getD xs i d) ≡ total (map f xs) + f y
+  unfolding total
+  total-set f [] i y d l = absurd (omega arith)
+  total-set f (x ∷ xs) zero y d l = omega arith
+  total-set f (x ∷ xs) (suc i) y d l = omega (arith, total-set f xs i y d (omega arith))
+
+  pub total-le : (f g : A → ℕ) (xs : List A) → Every (λ x. f x ≤ g x) xs → total (map f xs) ≤ total (map g xs)
+  unfolding total
+  total-le f g [] h = le-refl 0
+  total-le f g (x ∷ xs) h = omega (arith, total-le f g xs (h .1))
+
+  pub total-append : (f : A → ℕ) (xs ys : List A) → total (map f (xs ++ ys)) ≡ total (map f xs) + total (map f ys)
+  unfolding total
+  total-append f [] ys = omega arith
+  total-append f (x ∷ xs) ys = omega (arith, total-append f xs ys)
+
+-- ---- different numbers
+
+abbrev pub Different : List ℕ → Type 0
+Different [] = Unit {0}
+Different (x ∷ xs) = (mem x xs ≡ false) × Different xs
+
+pub mem-snoc : (k : ℕ) (xs : List ℕ) (c : ℕ) → mem k (xs ++ c ∷ []) ≡ (mem k xs || eqb k c)
+unfolding mem
+mem-snoc k [] c = or-false (eqb k c)
+mem-snoc k (x ∷ xs) c = rw (mem-snoc k xs c) (sym (or-assoc (eqb k x) (mem k xs) (eqb k c)))
+
+pub different-is : (xs : List ℕ) → different xs ≡ true → Different xs
+unfolding different
+different-is [] h = tt
+different-is (x ∷ xs) h = (not-true (mem x xs) (and-left (not (mem x xs)) (different xs) h), different-is xs (and-right (not (mem x xs)) (different xs) h))
+
+pub different-snoc : (xs : List ℕ) (x : ℕ) → Different xs → mem x xs ≡ false → Different (xs ++ x ∷ [])
+unfolding mem
+different-snoc [] x d h = (refl, tt)
+different-snoc (y ∷ xs) x d h =
+    let a : eqb x y ≡ false = or-left (eqb x y) (mem x xs) h in
+    let b : mem x xs ≡ false = or-right (eqb x y) (mem x xs) h in
+    let q : y ≡ x → ⊥ = λ z. clash (eq-eqb x y (sym z)) a in
+    (rw (mem-snoc y xs x, d .0, ne-eqb y x q), different-snoc xs x (d .1) b)
+
+-- how many numbers below n pass
+unfoldable pub count : (ℕ → Bool) → ℕ → ℕ
+count p zero = 0
+count p (suc n) = cond (p n) 1 0 + count p n
+
+count-le : (p : ℕ → Bool) (n : ℕ) → count p n ≤ n
+unfolding count
+count-le p zero = le-refl 0
+count-le p (suc n) = go (truth (p n)) (count-le p n)
+  where
+    go : Truth (p n) → count p n ≤ n → count p (suc n) ≤ suc n
+    go (holds t) h = simp t (omega arith)
+    go (fails t) h = simp t (omega arith)
+
+-- one number more
+count-out : (p : ℕ → Bool) (x n : ℕ) → n ≤ x → count (λ y. eqb y x || p y) n ≡ count p n
+unfolding count
+count-out p x zero l = refl
+count-out p x (suc n) l = let q : n ≢ x = omega arith in simp (ne-eqb n x q) (rw (count-out p x n (omega arith)))
+
+count-in : (p : ℕ → Bool) (x n : ℕ) → p x ≡ false → x < n → count (λ y. eqb y x || p y) n ≡ suc (count p n)
+unfolding count
+count-in p x zero h l = absurd (omega arith)
+count-in p x (suc n) h l = go (equality n x) (λ k. count-in p x n h k)
+  where
+    go : Equal n x → (x < n → count (λ y. eqb y x || p y) n ≡ suc (count p n)) → count (λ y. eqb y x || p y) (suc n) ≡ suc (count p (suc n))
+    go (equal t q) ih = let f : p n ≡ false = rw q h in simp (t, f) (omega (arith, count-out p x n (omega arith)))
+    go (differ t q) ih = simp t (omega (arith, ih (omega arith)))
+
+pub counted : (n : ℕ) (xs : List ℕ) → Different xs → Every (λ x. x < n) xs → count (λ y. mem y xs) n ≡ length xs
+unfolding mem count
+counted n [] d h = none n
+  where
+    none : (m : ℕ) → count (λ y. false) m ≡ 0
+    none zero = refl
+    none (suc m) = omega (arith, none m)
+counted n (x ∷ xs) d h = count-in (λ y. mem y xs) x n (d .0) (h .0) ∙ ap suc (counted n xs (d .1) (h .1))
+
+pub at-most : (n : ℕ) (xs : List ℕ) → Different xs → Every (λ x. x < n) xs → length xs ≤ n
+at-most n xs d h = omega (arith, counted n xs d h, count-le (λ y. mem y xs) n)
+
+pub count-same : (p q : ℕ → Bool) (n : ℕ) → ((i : ℕ) → i < n → p i ≡ q i) → count p n ≡ count q n
+unfolding count
+count-same p q zero h = refl
+count-same p q (suc n) h = rw (h n (omega arith), count-same p q n (λ i l. h i (omega arith)))
+
+-- ---- buffers
+
+pub length-padded : (size filler : ℕ) (xs : List ℕ) → length xs ≤ size → length (padded size filler xs) ≡ size
+unfolding padded
+length-padded size filler xs h = simp (length-append, length-replicate) (omega arith)

@@ -1,0 +1,91 @@
+-- The limits and bounds of document 01, one definition each, and the two operations on lengths.
+--   maxVertices maxPieces maxSize maxLength maxLabel   of a network
+--   maxSide maxCalls maxText                           of a session and of a text
+--   sizePlaces .. linePlaces                           the sizes of the lent buffers
+--   unreached unusedInterval                           what stands where there is no label, no interval
+--   sum below                                          a label and a length; the order of sums
+use mathlib.Core.Bool.{Bool}
+use Prim.Native.Nat.{ℕ, _+_}
+use lib.Dec.{ltb}
+
+-- "n from 1 to 256; p from 1 to 16; m from 1 to 24; a length from 0 to 99,999"
+abbrev pub maxVertices : ℕ
+maxVertices = 256
+
+abbrev pub maxPieces : ℕ
+maxPieces = 16
+
+abbrev pub maxSize : ℕ
+maxSize = 24
+
+abbrev pub maxLength : ℕ
+maxLength = 99999
+
+-- "A label is then at most 255 × 99,999 = 25,499,745"; the limit of a told value too
+abbrev pub maxLabel : ℕ
+maxLabel = 25499745
+
+-- "A session holds a rectangle of 1 to 24 rows and 1 to 24 columns, 0 to 64 calls"
+abbrev pub maxSide : ℕ
+maxSide = 24
+
+abbrev pub maxCalls : ℕ
+maxCalls = 64
+
+-- "The text is at most 60,000 bytes"
+abbrev pub maxText : ℕ
+maxText = 60000
+
+-- "16 district sizes, 384 gates (24 for each district) and 9,216 lengths (24 rows of 24 each)"
+abbrev pub sizePlaces : ℕ
+sizePlaces = 16
+
+abbrev pub vertexPlaces : ℕ
+vertexPlaces = 384
+
+abbrev pub lengthPlaces : ℕ
+lengthPlaces = 9216
+
+-- the places of one row and of one piece in the buffers above
+abbrev pub rowPlaces : ℕ
+rowPlaces = 24
+
+abbrev pub tablePlaces : ℕ
+tablePlaces = 576
+
+-- "The label buffer has 256 places"
+abbrev pub labelPlaces : ℕ
+labelPlaces = 256
+
+-- "Lent sizes: rectangle 576 (24 rows of 24), calls 192, answers 192, intervals 72"
+abbrev pub rectanglePlaces : ℕ
+rectanglePlaces = 576
+
+abbrev pub callPlaces : ℕ
+callPlaces = 192
+
+abbrev pub answerPlaces : ℕ
+answerPlaces = 192
+
+abbrev pub intervalPlaces : ℕ
+intervalPlaces = 72
+
+-- "the lent line, 36 bytes"
+abbrev pub linePlaces : ℕ
+linePlaces = 36
+
+-- "holds 4,294,967,295 for an unreached gate and for places above n"
+abbrev pub unreached : ℕ
+unreached = 4294967295
+
+-- "the kept intervals from its front, unused places 255"
+abbrev pub unusedInterval : ℕ
+unusedInterval = 255
+
+-- "A column's sum through a told row is the row's value plus the entry"
+abbrev pub sum : ℕ → ℕ → ℕ
+sum label length = label + length
+
+-- "a strictly smaller sum"
+abbrev pub below : ℕ → ℕ → Bool
+below a b = ltb a b
