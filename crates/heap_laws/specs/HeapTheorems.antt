@@ -1,0 +1,180 @@
+-- The main theorems about the heap of one block, each restated in full; the proofs cite the parts.
+-- They hold for Monge rectangles of any size, so the limit of 24 rows and columns is not needed, and for every list ks of calls of any
+-- length and any kind, from the fresh model on. M1 to M8 number the steps of the argument, here and in the other files.
+--   the rectangle    monge-test all-pairs one-crossing
+--   the calls        one-more refused-changes-nothing
+--   the model        parents-rise won-one-range floors
+--   activate         activation-edits activation-wins-nothing activation-first
+--   extract          extraction-none extraction-some extraction-edits
+--   the intervals    intervals-are-longest-runs longest-runs-are-intervals intervals-once
+--   the counts       inserted-removed-kept extraction-inserts activation-inserts insertions-few
+--   the places read  used-places
+use mathlib.Core.Path.{_≡_}
+use mathlib.Core.Bool.{true, false}
+use mathlib.Core.List.{List, [], _∷_, _++_}
+use mathlib.Core.Logic.{_≢_}
+use Prim.Native.Nat.{ℕ, suc, pred, _+_, _*_, _≤_, _<_}
+use native.Mathlib.Omega.{arith}
+use lib.ListN.{length}
+use Rattle.definitions.specs.Limits.{sum}
+use Rattle.definitions.specs.Lists.{mem}
+use Rattle.definitions.specs.Blocks.{Rectangle, Monge, isMonge}
+use Rattle.definitions.specs.Model.{by, parent, available, extract, Model, Interval, interval, intervals, isKept, Call, coded, judge, step, Trace, extend, trace}
+use Rattle.basics.specs.Lists.{Every}
+use Rattle.heap_laws.specs.Inequality as inequality
+use Rattle.heap_laws.specs.Least.{from-is, upTo-is}
+use Rattle.heap_laws.specs.Parents as parents
+use Rattle.heap_laws.specs.Won.{won, won-between, Range, SomeRange, range}
+use Rattle.heap_laws.specs.Sound.{trace-sound, step-floor, won-available}
+use Rattle.heap_laws.specs.Calls.{Activates, trace-snoc, trace-activate}
+use Rattle.heap_laws.specs.Runs.{Rising, runs-rising, IsRun, Longest, runs-longest, runs-length}
+use Rattle.heap_laws.specs.Counting.{Distinct, runs-distinct}
+use Rattle.heap_laws.specs.Edits.{before, from, run-kept}
+use Rattle.heap_laws.specs.Activate as activation
+use Rattle.heap_laws.specs.Extract as extraction
+use Rattle.heap_laws.specs.Extract.{LeastLeft}
+use Rattle.heap_laws.specs.Traces as traces
+use Rattle.heap_laws.specs.Agree as agree
+
+-- ---- the rectangle
+
+-- The test of the check computes the inequality of neighbouring rows and columns, neither more nor less.
+pub monge-test : (e : Rectangle) (rows cols : ℕ) → (isMonge e rows cols ≡ true → Monge e rows cols) × (Monge e rows cols → isMonge e rows cols ≡ true)
+monge-test e rows cols = (inequality.isMonge-is e rows cols, inequality.isMonge-from e rows cols)
+
+-- M1. The inequality holds for all pairs of rows and of columns: the neighbouring ones between them add up, first along the
+-- columns, then along the rows.
+pub all-pairs : (e : Rectangle) (rows cols : ℕ) → Monge e rows cols
+    → (i j k l : ℕ) → i ≤ j → j < rows → k ≤ l → l < cols → e i k + e j l ≤ e i l + e j k
+all-pairs e rows cols ok i j k l ij hj kl hl = inequality.monge e rows cols ok i k l kl hl j ij hj
+
+-- M2. Two rows a ≤ b with labels v and u cross at most once: where b is strictly below a, it is at every later column, and where a is
+-- strictly below b, it is at every earlier column. Both are M1 with the labels added on both sides.
+pub one-crossing : (e : Rectangle) (rows cols : ℕ) → Monge e rows cols
+    → (a b v u k l : ℕ) → a ≤ b → b < rows → k ≤ l → l < cols
+    → (sum u (e b k) < sum v (e a k) → sum u (e b l) < sum v (e a l)) × (sum v (e a l) < sum u (e b l) → sum v (e a k) < sum u (e b k))
+one-crossing e rows cols ok a b v u k l ab hb kl hl =
+    (inequality.crossing-later e rows cols ok a b v u k l ab hb kl hl, inequality.crossing-earlier e rows cols ok a b v u k l ab hb kl hl)
+
+-- ---- the calls
+
+module _ (e : Rectangle) (rows cols : ℕ) (ks : List Call) where
+  -- what the calls leave: the trace, its model, its intervals; and the trace with one call more
+  abbrev pub done : Trace
+  done = trace e rows cols ks
+
+  abbrev pub model : Model
+  model = done .model
+
+  abbrev pub kept : List Interval
+  kept = intervals e cols model
+
+  abbrev pub more : Call → Trace
+  more k = trace e rows cols (ks ++ k ∷ [])
+
+  -- One call more is one step more: its answer is added at the end, what it inserts and removes to the counts.
+  pub one-more : (k : Call) → more k ≡ extend e rows cols done k
+  one-more k = trace-snoc e rows cols ks k
+
+  -- A refused call answers with the number of its refusal. It leaves the model and both counts.
+  pub refused-changes-nothing : (k : Call) → judge rows model k ≢ 0
+      → more k ≡ record { model = model; answers = done .answers ++ coded (judge rows model k) ∷ []; inserted = done .inserted; removed = done .removed }
+  refused-changes-nothing k h = rw trace-snoc (traces.extend-refused e rows cols done k h)
+
+  -- M3. Parents rise with the columns. Were the parent q of d below the parent p of an earlier c, then neither sum would be below the
+  -- parent's at the other's column, one of them strictly above by who was activated first: added up they contradict M1.
+  pub parents-rise : Monge e rows cols → (c d p s q t : ℕ) → c ≤ d → d < cols → parent e (model .activated) c ≡ by p s → parent e (model .activated) d ≡ by q t → p ≤ q
+  parents-rise ok c d p s q t cd hd x y = parents.parents-rise e rows cols ok (model .activated) (trace-sound e rows cols ks .in-rows) c d cd hd p s q t x y
+
+  -- M4. The columns where a new row is strictly below every activated row are one range: beating a lower row goes on to later columns,
+  -- beating a higher one to earlier columns. Its label is at least the floor, so by M5 none of them is extracted.
+  pub won-one-range : Monge e rows cols → (r v : ℕ) → r < rows → model .floor ≤ v
+      → SomeRange (won e (model .activated) r v) cols × ((c : ℕ) → won e (model .activated) r v c ≡ true → mem c (model .extracted) ≡ false)
+  won-one-range ok r v hr high =
+      let g = trace-sound e rows cols ks in
+      (range (won e (model .activated) r v) cols (won-between e rows cols ok (model .activated) (g .in-rows) r v hr), λ c h. won-available e rows cols model g r v c high h)
+
+  -- M5. The floor lies between: an extracted column has a parent and a least sum at most the floor; any other column that has a parent
+  -- has a least sum at least the floor. A new row has a label at least the floor, so it lowers no least sum below the floor; an
+  -- extraction takes the least of the sums that are left, and that is the new floor. So the floor never falls.
+  pub floors : ((c : ℕ) → mem c (model .extracted) ≡ true → (p : ℕ) × (s : ℕ) × (parent e (model .activated) c ≡ by p s) × (s ≤ model .floor))
+      × ((c p s : ℕ) → c < cols → available e model c ≡ by p s → model .floor ≤ s)
+      × ((k : Call) → model .floor ≤ more k .model .floor)
+  unfolding extend
+  floors =
+      let g = trace-sound e rows cols ks in
+      (λ c h. upTo-is _ _ (g .low c h), λ c p s l q. from-is _ p s _ (g .high c l) q, λ k. rw trace-snoc (step-floor e rows cols model k g))
+
+  -- M6. The columns from `first` up to `end` that the row of an activation wins are cut out of the intervals and become one interval of
+  -- that row: every other column keeps its parent, and the row had no column before.
+  pub activation-edits : (k : Call) → Activates rows model k
+      → (first end : ℕ) → Range (won e (model .activated) (k .row) (k .label)) cols first end → first < end
+      → intervals e cols (more k .model) ≡ before first kept ++ (interval (k .row) first (pred end) ∷ from end kept)
+  activation-edits k a first end w some = rw (trace-activate e rows cols ks k a)
+      (activation.activate-edit e rows cols model (trace-sound e rows cols ks) (k .row) (k .label) (a .row-new) (a .high) first end w some)
+
+  -- Where nothing is won, nothing changes.
+  pub activation-wins-nothing : (k : Call) → Activates rows model k → ((c : ℕ) → c < cols → won e (model .activated) (k .row) (k .label) c ≡ false)
+      → intervals e cols (more k .model) ≡ kept
+  activation-wins-nothing k a lost = rw (trace-activate e rows cols ks k a) (activation.activate-none e cols model (k .row) (k .label) lost)
+
+  -- The first row that is activated gets all columns: none has a parent yet, and so none is extracted.
+  pub activation-first : (k : Call) → Activates rows model k → model .activated ≡ [] → 0 < cols
+      → intervals e cols (more k .model) ≡ interval (k .row) 0 (pred cols) ∷ []
+  activation-first k a none some = rw (trace-activate e rows cols ks k a) (activation.activate-first e rows cols model (trace-sound e rows cols ks) (k .row) (k .label) (a .high) none some)
+
+  -- M7. An extraction answers 50 and leaves the model if no interval is left. Else it answers a column with its sum: among the columns
+  -- that are left the least sum, and the lowest column of that sum. So it answers 50 exactly if no interval is left.
+  pub extraction-none : (k : Call) → k .kind ≡ 2 → kept ≡ [] → step e rows cols model k ≡ record { model = model; answer = coded 50 }
+  extraction-none k h none = extraction.extraction-none e rows cols model k h none
+
+  pub extraction-some : (k : Call) → k .kind ≡ 2 → kept ≢ [] → (c : ℕ) × (s : ℕ) × LeastLeft e cols model c s
+      × (step e rows cols model k ≡ record { model = extract model (by c s); answer = record { code = 0; column = c; total = s } })
+  extraction-some k h some = extraction.extraction-some e rows cols model k h some
+
+  -- The column is cut out of its interval.
+  pub extraction-edits : (c s : ℕ) → c < cols
+      → intervals e cols (extract model (by c s)) ≡ before c kept ++ from (suc c) kept
+  extraction-edits c s h = extraction.extract-edit e cols model c s h
+
+  -- ---- the intervals
+
+  -- They are exactly the longest runs of neighbouring columns with one parent, in rising order, each once, at most one for each column.
+  pub intervals-are-longest-runs : Every (Longest (available e model) 0 cols) kept
+  unfolding intervals
+  intervals-are-longest-runs = runs-longest (available e model) 0 cols
+
+  pub longest-runs-are-intervals : (p f l : ℕ) → IsRun (available e model) 0 cols p f l → isKept (interval p f l) kept ≡ true
+  unfolding intervals
+  longest-runs-are-intervals p f l run = run-kept (available e model) cols p f l run
+
+  pub intervals-once : Rising 0 kept × Distinct kept × (length kept ≤ cols)
+  unfolding intervals
+  intervals-once = (runs-rising (available e model) 0 cols, runs-distinct (available e model) 0 cols, runs-length (available e model) 0 cols)
+
+  -- ---- the counts
+
+  -- M8. Over all calls, inserted = removed + kept. For one call both lists hold each interval once, so those in one and not in the other
+  -- make up the difference of the lengths; then by induction over the list.
+  pub inserted-removed-kept : done .inserted ≡ done .removed + length kept
+  inserted-removed-kept = traces.trace-balance e rows cols ks
+
+  -- An extraction inserts at most two intervals, the rests of the one that had the column.
+  pub extraction-inserts : (k : Call) → k .kind ≡ 2 → more k .inserted ≤ done .inserted + 2
+  unfolding extend
+  extraction-inserts k h = rw trace-snoc (omega (arith, traces.step-new-extract e rows cols model k h))
+
+  -- An activation, and so any call, inserts at most three: its own interval, and the rests of those at the two ends of the range won.
+  pub activation-inserts : Monge e rows cols → (k : Call) → more k .inserted ≤ done .inserted + 3
+  unfolding extend
+  activation-inserts ok k = rw trace-snoc (omega (arith, traces.step-new e rows cols ok model k (trace-sound e rows cols ks)))
+
+  -- Over all calls at most three for each activated row and two for each extracted column.
+  pub insertions-few : Monge e rows cols → done .inserted ≤ 3 * length (model .activated) + 2 * length (model .extracted)
+  insertions-few ok = traces.trace-few e rows cols ok ks
+
+-- ---- the places read
+
+-- Rectangles that agree on the rows and columns in use give the same trace, so it does not matter where the entries are kept.
+pub used-places : (e e′ : Rectangle) (rows cols : ℕ) → ((r c : ℕ) → r < rows → c < cols → e r c ≡ e′ r c) → (ks : List Call) → trace e rows cols ks ≡ trace e′ rows cols ks
+used-places e e′ rows cols same ks = agree.trace-agree e e′ rows cols same ks

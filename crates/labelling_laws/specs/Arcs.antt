@@ -1,0 +1,182 @@
+-- The blocks of an accepted network fit the labelling, their arcs are the network's, and how many rows and columns they have.
+--   rows-length cols-length row-vertex col-vertex entry-at    a block of a piece, by places
+--   blocks-fit                       every block fits
+--   walk-to-blocks walk-to-pieces    a walk over the pieces is one over the blocks, and back
+--   all-rows all-cols rows-cols      at most the weight
+use mathlib.Core.Path.{_≡_, refl, sym, _∙_}
+use mathlib.Core.Bool.{true, false}
+use mathlib.Core.List.{List, [], _∷_, map}
+use mathlib.Core.Logic.{inl, inr, ⊎-elim}
+use Prim.Native.Nat.{ℕ, zero, suc, _+_, _-_, _*_, _≤_, _<_}
+use native.Mathlib.Nat.{le-refl}
+use native.Mathlib.Omega.{arith}
+use borrow.Author.Tests.{ne-eqb}
+use lib.ListN.{getD, length, length-map}
+use Rattle.definitions.specs.Limits.{maxSize}
+use Rattle.definitions.specs.Lists.{mem, total, upFrom, downTo}
+use Rattle.definitions.specs.Blocks.{Window, windowsOf, rowsOf, columnsOf, logarithm}
+use Rattle.definitions.specs.Network.{Piece, entry, sizeOf, Block, blockOf, blocksOf, blocks, noBlock, passes, noPiece, ArcIn, Arc, Walk, weight}
+use Rattle.basics.specs.Lists.{Every, every-at, every-append, Any, any-at, at-any, any-left, any-right, any-cases, any-map, any-back, total-append, Different}
+use Rattle.heap_laws.specs.Inequality.{isMonge-is}
+use Rattle.splits.specs.Windows.{Inside, windows-inside, pair-once, spanned, Spans, rows-few, cols-few}
+use Rattle.basics.specs.Sequences.{length-upFrom, getD-upFrom, length-downTo, getD-downTo, map-at}
+use Rattle.labelling_laws.specs.Places.{different-at}
+use Rattle.labelling_laws.specs.Walks.{ArcOf, BlockArc, walk-map}
+use Rattle.labelling_laws.specs.OneBlock.{Fit}
+use Rattle.labelling_laws.specs.Acceptance.{Suits}
+
+-- the place of column i, counted from the first of the n places
+column-at : (s n i : ℕ) → i < n → getD (downTo s n) i 0 ≡ s + (n - suc i)
+column-at s n i l = getD-downTo s n i l ∙ (omega arith)
+
+-- ---- a block by places
+
+module _ (q : Piece) (w : Window) where
+  pub rows-length : length ((blockOf q w) .rows) ≡ w .rows
+  unfolding blockOf rowsOf
+  rows-length = simp (length-map, length-upFrom)
+
+  pub cols-length : length ((blockOf q w) .cols) ≡ w .cols
+  unfolding blockOf columnsOf
+  cols-length = simp (length-map, length-downTo)
+
+  -- the vertex of row i, of column k, and the entry at both
+  pub row-vertex : (i : ℕ) → i < w .rows → getD ((blockOf q w) .rows) i 0 ≡ getD (q .vertices) (w .row0 + i) 0
+  unfolding blockOf rowsOf
+  row-vertex i l = map-at (λ j. getD (q .vertices) j 0) (upFrom (w .row0) (w .rows)) i 0 0 (rw length-upFrom l) ∙ rw (getD-upFrom (w .row0) (w .rows) i l)
+
+  pub col-vertex : (k : ℕ) → k < w .cols → getD ((blockOf q w) .cols) k 0 ≡ getD (q .vertices) (w .col0 + (w .cols - suc k)) 0
+  unfolding blockOf columnsOf
+  col-vertex k l = map-at (λ j. getD (q .vertices) j 0) (downTo (w .col0) (w .cols)) k 0 0 (rw length-downTo l) ∙ rw (column-at (w .col0) (w .cols) k l)
+
+  pub entry-at : (i k : ℕ) → i < w .rows → k < w .cols → (blockOf q w) .lengths i k ≡ entry q (w .row0 + i) (w .col0 + (w .cols - suc k))
+  unfolding blockOf rowsOf columnsOf
+  entry-at i k li lk = rw (getD-upFrom (w .row0) (w .rows) i li, column-at (w .col0) (w .cols) k lk)
+
+-- ---- the blocks fit
+
+stretch-differs : (vs : List ℕ) → Different vs → (s n : ℕ) → s + n ≤ length vs → Different (map (λ i. getD vs i 0) (upFrom s n))
+unfolding upFrom mem
+stretch-differs vs d s zero l = tt
+stretch-differs vs d s (suc n) l = (without (suc s) n (omega arith) (omega arith), stretch-differs vs d (suc s) n (omega arith))
+  where
+    without : (t k : ℕ) → s < t → t + k ≤ length vs → mem (getD vs s 0) (map (λ i. getD vs i 0) (upFrom t k)) ≡ false
+    without t zero h m = refl
+    without t (suc k) h m = simp (ne-eqb (getD vs s 0) (getD vs t 0) (different-at vs d s t h (omega arith))) (without (suc t) k (omega arith) (omega arith))
+
+module _ (n : ℕ) where
+  fit-one : (q : Piece) → Suits n q → (w : Window) → Inside (sizeOf q) w → passes (blockOf q w) ≡ true → Fit n (blockOf q w)
+  unfolding passes sizeOf
+  fit-one q su w i ok = record {
+    rows-differ = unfold blockOf rowsOf in stretch-differs (q .vertices) (su .vertices-differ) (w .row0) (w .rows) (i .rows-in);
+    cols-in = λ c l.
+        let lc : c < w .cols = rw cols-length at l in
+        rw (col-vertex q w c lc) (every-at (λ v. (1 ≤ v) × (v ≤ n)) (q .vertices) (su .vertices-in) (w .col0 + (w .cols - suc c)) 0 (omega (arith, i .cols-in)));
+    short = λ r c lr lc. rw (entry-at q w r c (rw rows-length at lr) (rw cols-length at lc)) (su .short (w .row0 + r) (w .col0 + (w .cols - suc c)));
+    monge = isMonge-is _ _ _ ok;
+  }
+
+  fit-all : (q : Piece) → Suits n q → (ws : List Window) → Every (Inside (sizeOf q)) ws → Every (λ b. passes b ≡ true) (map (blockOf q) ws) → Every (Fit n) (map (blockOf q) ws)
+  fit-all q su [] i p = tt
+  fit-all q su (w ∷ ws) i p = (fit-one q su w (i .0) (p .0), fit-all q su ws (i .1) (p .1))
+
+  pub blocks-fit : (qs : List Piece) → Every (Suits n) qs → Every (Fit n) (blocks qs)
+  unfolding blocks blocksOf
+  blocks-fit [] h = tt
+  blocks-fit (q ∷ qs) h =
+      every-append (Fit n) (blocksOf q) (blocks qs) (fit-all q (h .0) (windowsOf (sizeOf q)) (windows-inside (sizeOf q) (h .0 .size-high)) (h .0 .monge)) (blocks-fit qs (h .1))
+
+-- ---- the arcs are the same
+
+arc-to-block : (q : Piece) (u v l : ℕ) → (a : ArcIn q u v l) → (w : Window) → Spans (a .here) (a .there) w → ArcOf (blockOf q w) u v l
+arc-to-block q u v l a w s =
+    let i : ℕ = a .here - w .row0 in
+    let k : ℕ = w .cols - suc (a .there - w .col0) in
+    let at-row : w .row0 + (a .here - w .row0) ≡ a .here = omega (arith, s .row-from) in
+    let at-col : w .col0 + (w .cols - suc (w .cols - suc (a .there - w .col0))) ≡ a .there = omega (arith, s .col-from, s .col-to) in
+    let row-in : a .here - w .row0 < w .rows = omega (arith, s .row-from, s .row-to) in
+    let col-in : w .cols - suc (a .there - w .col0) < w .cols = omega (arith, s .col-from, s .col-to) in
+    record {
+      row = i;
+      col = k;
+      row-in = rw rows-length row-in;
+      col-in = rw cols-length col-in;
+      tail = row-vertex q w i row-in ∙ rw at-row (a .tail);
+      head = col-vertex q w k col-in ∙ rw at-col (a .head);
+      metres = entry-at q w i k row-in col-in ∙ rw (at-row, at-col) (a .metres);
+    }
+
+arc-to-piece : (q : Piece) (u v l : ℕ) (w : Window) → Inside (sizeOf q) w → ArcOf (blockOf q w) u v l → ArcIn q u v l
+arc-to-piece q u v l w i a =
+    let row-in : a .row < w .rows = rw rows-length at (a .row-in) in
+    let col-in : a .col < w .cols = rw cols-length at (a .col-in) in
+    record {
+      here = w .row0 + a .row;
+      there = w .col0 + (w .cols - suc (a .col));
+      here-in = omega (arith, i .rows-in);
+      there-in = omega (arith, i .cols-in);
+      differ = ⊎-elim (λ (p : w .row0 + w .rows ≤ w .col0). λ q. omega arith) (λ (p : w .col0 + w .cols ≤ w .row0). λ q. omega arith) (i .apart);
+      tail = sym (row-vertex q w (a .row) row-in) ∙ a .tail;
+      head = sym (col-vertex q w (a .col) col-in) ∙ a .head;
+      metres = sym (entry-at q w (a .row) (a .col) row-in col-in) ∙ a .metres;
+    }
+
+module _ (n u v l : ℕ) where
+  in-blocks : (qs : List Piece) → Every (Suits n) qs → Any (λ q. ArcIn q u v l) qs → Any (λ b. ArcOf b u v l) (blocks qs)
+  unfolding blocks blocksOf
+  in-blocks [] h x = absurd x
+  in-blocks (q ∷ qs) h (inl a) = any-left (λ b. ArcOf b u v l) (blocksOf q) (blocks qs)
+      (any-map (Spans (a .here) (a .there)) (λ b. ArcOf b u v l) (blockOf q) (windowsOf (sizeOf q)) (arc-to-block q u v l a)
+      (spanned (a .here) (a .there) (windowsOf (sizeOf q)) (omega (arith, pair-once (sizeOf q) (a .here) (a .there) (h .0 .size-high) (a .here-in) (a .there-in) (a .differ)))))
+  in-blocks (q ∷ qs) h (inr x) = any-right (λ b. ArcOf b u v l) (blocksOf q) (blocks qs) (in-blocks qs (h .1) x)
+
+  in-pieces : (qs : List Piece) → Every (Suits n) qs → Any (λ b. ArcOf b u v l) (blocks qs) → Any (λ q. ArcIn q u v l) qs
+  unfolding blocks blocksOf
+  in-pieces [] h x = absurd x
+  in-pieces (q ∷ qs) h x = ⊎-elim
+      (λ (y : Any (λ b. ArcOf b u v l) (blocksOf q)). inl
+      (any-back (Inside (sizeOf q)) (λ b. ArcOf b u v l) (ArcIn q u v l) (blockOf q) (windowsOf (sizeOf q)) (arc-to-piece q u v l) (windows-inside (sizeOf q) (h .0 .size-high)) y))
+      (λ (y : Any (λ b. ArcOf b u v l) (blocks qs)). inr (in-pieces qs (h .1) y))
+      (any-cases (λ b. ArcOf b u v l) (blocksOf q) (blocks qs) x)
+
+  to-blocks : (qs : List Piece) → Every (Suits n) qs → Arc qs u v l → BlockArc (blocks qs) u v l
+  to-blocks qs h a =
+      let s = at-any (λ b. ArcOf b u v l) (blocks qs) noBlock (in-blocks qs h (any-at (λ q. ArcIn q u v l) qs (a .number) noPiece (a .number-in) (a .arc))) in
+      record { number = s .number; number-in = s .number-in; arc = s .here }
+
+  to-pieces : (qs : List Piece) → Every (Suits n) qs → BlockArc (blocks qs) u v l → Arc qs u v l
+  to-pieces qs h a =
+      let s = at-any (λ q. ArcIn q u v l) qs noPiece (in-pieces qs h (any-at (λ b. ArcOf b u v l) (blocks qs) (a .number) noBlock (a .number-in) (a .arc))) in
+      record { number = s .number; number-in = s .number-in; arc = s .here }
+
+pub walk-to-blocks : (n : ℕ) (qs : List Piece) → Every (Suits n) qs → {s v l : ℕ} → Walk (Arc qs) s v l → Walk (BlockArc (blocks qs)) s v l
+walk-to-blocks n qs h p = walk-map (λ u v l a. to-blocks n u v l qs h a) p
+
+pub walk-to-pieces : (n : ℕ) (qs : List Piece) → Every (Suits n) qs → {s v l : ℕ} → Walk (BlockArc (blocks qs)) s v l → Walk (Arc qs) s v l
+walk-to-pieces n qs h p = walk-map (λ u v l a. to-pieces n u v l qs h a) p
+
+-- ---- how many rows and columns
+
+-- f counts the rows, or the columns, of a block, and g those of its window
+module _ (f : Block → ℕ) (g : Window → ℕ) (same : (q : Piece) (w : Window) → f (blockOf q w) ≡ g w) (few : (m : ℕ) → m ≤ maxSize → total (map g (windowsOf m)) ≤ m * logarithm m) where
+  of-piece : (q : Piece) (ws : List Window) → total (map f (map (blockOf q) ws)) ≡ total (map g ws)
+  unfolding total
+  of-piece q [] = refl
+  of-piece q (w ∷ ws) = omega (arith, of-piece q ws, same q w)
+
+  of-all : (n : ℕ) (qs : List Piece) → Every (Suits n) qs → total (map f (blocks qs)) ≤ weight qs
+  unfolding blocks blocksOf weight total
+  of-all n [] h = le-refl 0
+  of-all n (q ∷ qs) h =
+      omega (arith, total-append f (blocksOf q) (blocks qs), of-piece q (windowsOf (sizeOf q)), few (sizeOf q) (h .0 .size-high), of-all n qs (h .1))
+
+pub all-rows : (n : ℕ) (qs : List Piece) → Every (Suits n) qs → total (map (λ b. length (b .rows)) (blocks qs)) ≤ weight qs
+all-rows = of-all (λ b. length (b .rows)) (λ w. w .rows) rows-length rows-few
+
+pub all-cols : (n : ℕ) (qs : List Piece) → Every (Suits n) qs → total (map (λ b. length (b .cols)) (blocks qs)) ≤ weight qs
+all-cols = of-all (λ b. length (b .cols)) (λ w. w .cols) cols-length cols-few
+
+pub rows-cols : (bs : List Block) → total (map (λ b. 3 * length (b .rows) + 2 * length (b .cols)) bs) ≡ 3 * total (map (λ b. length (b .rows)) bs) + 2 * total (map (λ b. length (b .cols)) bs)
+unfolding total
+rows-cols [] = refl
+rows-cols (b ∷ bs) = omega (arith, rows-cols bs)

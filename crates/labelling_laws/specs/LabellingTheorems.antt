@@ -1,0 +1,99 @@
+-- The labelling of every accepted network: demand 2 and the count, each in full, with its argument.
+--   calls-done                    no call of the labelling is refused
+--   it-ends no-interval-left      in the end no block has an interval
+--   labels-limited                a label is at most 25,499,745
+--   labels-are-distances above-n  demand 2: each place of the label buffer
+--   reached-counts                the vertices reached
+--   few-extractions few-insertions   the counts
+--   every-block-a-trace           each block's model is that of a list of calls
+--   lent-network depot-accepted   a network in lent buffers; the depot example
+-- `Accepted n pieces source` says that no cause turns away the network of n vertices with these pieces, nor the source
+-- (judgeBounds, judgePieces and judgeSource, the definitions by which the code judges, are 0).
+use mathlib.Core.Path.{_≡_, refl}
+use mathlib.Core.Bool.{not}
+use mathlib.Core.List.{List, [], _∷_}
+use Prim.Native.Nat.{ℕ, suc, _*_, _≤_, _<_}
+use lib.Dec.{eqb}
+use lib.ListN.{getD, length}
+use Rattle.definitions.specs.Limits.{maxLabel, labelPlaces, unreached}
+use Rattle.definitions.specs.Lists.{all, every, mem, different, upFrom, downTo, within, firstCause}
+use Rattle.definitions.specs.Blocks.{splits, splitsOf, windows, windowsOf, rowsOf, columnsOf, corners, isMonge}
+use Rattle.definitions.specs.Model.{nobody, by, intervals}
+use Rattle.definitions.specs.Network.{Piece, entry, sizeOf, blockOf, blocksOf, blocks, passes, Distance, weight}
+use Rattle.definitions.specs.Labelling.{labelOf, chosen, steps, start, labelling, reached, extractions, insertions, labels}
+use Rattle.definitions.specs.Judgement.{judgeBounds, judgeSize, judgeVertices, judgeRow, judgeRows, judgeBlocks, judgeSource, judgePiece, judgePieces, piecesOf}
+use Rattle.definitions.specs.Entries.{judgeLabelling}
+use Rattle.basics.specs.Lists.{Every, count}
+use Rattle.labelling_laws.specs.Acceptance.{Accepted}
+use Rattle.labelling_laws.specs.Ends as ends
+use Rattle.labelling_laws.specs.Loop.{chosen-none}
+use Rattle.labelling_laws.specs.Traces.{Made, made}
+use Rattle.labelling_laws.specs.Pieces as network
+use Rattle.labelling_laws.specs.Lent.{lent-accepted}
+
+module _ (n : ℕ) (pieces : List Piece) (source : ℕ) (ok : Accepted n pieces source) where
+  -- After any number of steps every answer of every block has code 0: no activation was refused, and no extraction found nothing.
+  -- A vertex is activated once, when it is settled, at a label that is the last sum handed out: so its row is new in each block and
+  -- the label is at least the floor. Each vertex settled before adds at most 99,999 to it, so it is at most 255 × 99,999.
+  -- An extraction is made only from a block that offers a column.
+  pub calls-done : (m : ℕ) → Every (λ s. Every (λ a. a .code ≡ 0) (s .trace .answers)) ((steps m (start (blocks pieces) source)) .blocks)
+  calls-done = ends.calls-done (blocks pieces) n source (network.setting n pieces source ok)
+
+  -- As many steps as there are columns are enough: each step extracts a column of some block, and a column is extracted once.
+  pub it-ends : chosen (labelling (blocks pieces) source) ≡ nobody
+  it-ends = ends.ends (blocks pieces) n source (network.setting n pieces source ok)
+
+  -- "It ends when no block has an interval": nothing to choose means that every list of intervals is empty.
+  pub no-interval-left : Every (λ s. intervals (s .block .lengths) (length (s .block .cols)) (s .trace .model) ≡ []) ((labelling (blocks pieces) source) .blocks)
+  no-interval-left = chosen-none (labelling (blocks pieces) source) it-ends
+
+  -- The k-th vertex settled has a label of at most (k - 1) × 99,999, and at most n ≤ 256 vertices are settled.
+  pub labels-limited : (v l : ℕ) → labelOf v ((labelling (blocks pieces) source) .settled) ≡ by v l → l ≤ maxLabel
+  labels-limited = network.labels-limited n pieces source ok
+
+  -- Demand 2: place i holds the length of a shortest walk from the source to vertex i + 1, or 4,294,967,295 and there is no walk.
+  -- A label is the length of a walk, that to the parent and one arc more. In the end every block with an activated row has all its
+  -- columns extracted, and the vertex of an extracted column has a label of at most the sum through any activated row, since sums
+  -- are handed out in rising order. Each arc is in one block; so along any walk from the source every vertex is settled, with a label
+  -- of at most the length so far.
+  pub labels-are-distances : (i : ℕ) → i < labelPlaces → Distance pieces source (suc i) (getD (labels (labelling (blocks pieces) source)) i 0)
+  labels-are-distances = network.label-distance n pieces source ok
+
+  -- Only vertices of pieces are settled, and those are at most n.
+  pub above-n : (i : ℕ) → n ≤ i → i < labelPlaces → getD (labels (labelling (blocks pieces) source)) i 0 ≡ unreached
+  above-n = network.above-n n pieces source ok
+
+  -- "gates reached (the source too)": as many as places of the buffer that hold a label. Each vertex is settled once.
+  pub reached-counts : reached (labelling (blocks pieces) source) ≡ count (λ i. not (eqb (getD (labels (labelling (blocks pieces) source)) i 0) unreached)) labelPlaces
+  reached-counts = network.reached-count n pieces source ok
+
+  -- `weight` is the sum over the pieces of m·⌈log₂ m⌉. A column is extracted once, and the blocks of a piece have at most that
+  -- many columns.
+  pub few-extractions : extractions (labelling (blocks pieces) source) ≤ weight pieces
+  few-extractions = network.extractions-weight n pieces source ok
+
+  -- The count: an activation inserts at most three intervals and an extraction at most two; each row is activated and each column
+  -- extracted at most once; all blocks of a piece have at most m·⌈log₂ m⌉ rows and as many columns.
+  pub few-insertions : insertions (labelling (blocks pieces) source) ≤ 5 * weight pieces
+  few-insertions = network.insertions-weight n pieces source ok
+
+-- Demand 3 reaches the labelling: the model of each block is what some list of calls leaves of a fresh one, after any number of steps.
+pub every-block-a-trace : (pieces : List Piece) (source m : ℕ) → Every Made ((steps m (start (blocks pieces) source)) .blocks)
+every-block-a-trace pieces source m = made (blocks pieces) source m
+
+-- What the labelling judges in its lent buffers is an accepted network: the theorems hold of every call that is not refused.
+pub lent-network : (n p : ℕ) (sizes vertices lengths : List ℕ) (source : ℕ) (buffer : List ℕ) → judgeLabelling n p sizes vertices lengths source buffer ≡ 0
+    → Accepted n (piecesOf p sizes vertices lengths) source
+lent-network = lent-accepted
+
+-- The depot example is accepted, so that the theorems speak of something.
+depot : List Piece
+depot = record {
+  vertices = 1 ∷ 2 ∷ 3 ∷ 4 ∷ [];
+  rows = (0 ∷ 3 ∷ 7 ∷ 5 ∷ []) ∷ (3 ∷ 0 ∷ 4 ∷ 6 ∷ []) ∷ (7 ∷ 4 ∷ 0 ∷ 2 ∷ []) ∷ (5 ∷ 6 ∷ 2 ∷ 0 ∷ []) ∷ [];
+} ∷ []
+
+depot-accepted : Accepted 5 depot 1
+unfolding depot all every mem different upFrom downTo within firstCause splits splitsOf windows windowsOf rowsOf columnsOf corners isMonge entry sizeOf blockOf blocksOf passes
+    judgeBounds judgeSize judgeVertices judgeRow judgeRows judgeBlocks judgeSource judgePiece judgePieces
+depot-accepted = record { bounds = refl; pieces-pass = refl; source-passes = refl }

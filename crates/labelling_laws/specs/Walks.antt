@@ -1,0 +1,27 @@
+-- Walks over the arcs of blocks.
+--   ArcOf BlockArc    an arc of a block: from the vertex of a row to that of a column
+--   walk-map          from one kind of arc to another
+use mathlib.Core.Path.{_≡_}
+use mathlib.Core.List.{List}
+use Prim.Native.Nat.{ℕ, _<_}
+use lib.ListN.{getD, length}
+use Rattle.definitions.specs.Network.{Block, noBlock, Walk, stay, then}
+
+pub record ArcOf (b : Block) (u v l : ℕ) : Type 0 where
+  pub row : ℕ
+  pub col : ℕ
+  pub row-in : row < length (b .rows)
+  pub col-in : col < length (b .cols)
+  pub tail : getD (b .rows) row 0 ≡ u
+  pub head : getD (b .cols) col 0 ≡ v
+  pub metres : b .lengths row col ≡ l
+
+-- an arc of one of the blocks
+pub record BlockArc (bs : List Block) (u v l : ℕ) : Type 0 where
+  pub number : ℕ
+  pub number-in : number < length bs
+  pub arc : ArcOf (getD bs number noBlock) u v l
+
+pub walk-map : {A B : ℕ → ℕ → ℕ → Type 0} → ((u v l : ℕ) → A u v l → B u v l) → {s v l : ℕ} → Walk A s v l → Walk B s v l
+walk-map f stay = stay
+walk-map f (then {u} {l} {v} {l′} p a) = then (walk-map f p) (f u v l′ a)
