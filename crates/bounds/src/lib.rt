@@ -1,0 +1,53 @@
+// Numbers of document 01 that several crates share.
+
+// The bounds of a network and the sizes of its lent buffers.
+pub struct Network;
+
+impl Network {
+    pub const MAX_VERTICES: u32 = 256;
+
+    pub const MAX_PIECES: u32 = 16;
+
+    pub const MAX_SIZE: u32 = 24;
+
+    pub const MAX_LENGTH: u32 = 99999;
+
+    pub const MAX_LABEL: u32 = 25499745;
+
+    // the places of one row
+    pub const ROW_PLACES: usize = 24;
+
+    // the places of one piece's table
+    pub const TABLE_PLACES: usize = 576;
+
+    // the sizes of all pieces
+    pub const SIZE_PLACES: usize = 16;
+
+    // the vertices of all pieces
+    pub const VERTEX_PLACES: usize = 384;
+
+    // the tables of all pieces
+    pub const LENGTH_PLACES: usize = 9216;
+
+    // the labels of all vertices
+    pub const LABEL_PLACES: usize = 256;
+}
+
+// The numbers of the causes that turn a network away.
+pub struct Cause;
+
+impl Cause {
+    pub const NONE: u32 = 0;
+
+    pub const BUFFER: u32 = 1;
+
+    pub const BOUNDS: u32 = 4;
+
+    pub const VERTEX: u32 = 5;
+
+    pub const LENGTH: u32 = 6;
+
+    pub const BLOCK: u32 = 7;
+
+    pub const SOURCE: u32 = 8;
+}

@@ -1,0 +1,56 @@
+-- A buffer of zeros that is filled from its front: `padded size 0 xs` holds xs.
+--   put            a list put over the places from one on
+--   part-size part-long part-put part-kept   a lent part: how long it is, and what it leaves
+--   put-padded     put behind what is held
+--   padded-inner   a part that is padded itself
+use mathlib.Core.Path.{_≡_, refl, sym, ap, _∙_}
+use mathlib.Core.List.{List, [], _∷_, _++_, append-assoc}
+use Prim.Native.Nat.{ℕ, zero, suc, _+_, _-_, _≤_, _<_}
+use native.Mathlib.Omega.{arith}
+use lib.ListN.{length, take, drop, replicate, length-append, length-drop, length-replicate, replicate-append-replicate}
+use lib.Seq.{take-at, drop-at, length-take-le}
+use borrow.Rule.Slice.PartMut.{same-len-mid}
+use Rattle.definitions.specs.Lists.{padded}
+
+unfoldable pub put : List ℕ → ℕ → List ℕ → List ℕ
+put l a xs = take a l ++ (xs ++ drop (length xs) (drop a l))
+
+drop-replicate : (n k : ℕ) → drop {A = ℕ} k (replicate n 0) ≡ replicate (n - k) 0
+drop-replicate n zero = let e : n - 0 ≡ n = (omega arith) in rw e
+drop-replicate zero (suc k) = let e : 0 - suc k ≡ 0 = (omega arith) in rw e
+drop-replicate (suc n) (suc k) = let e : suc n - suc k ≡ n - k = (omega arith) in rw e (drop-replicate n k)
+
+pub put-padded : (size : ℕ) (ys xs : List ℕ) (a : ℕ) → length ys ≡ a → a + length xs ≤ size → put (padded size 0 ys) a xs ≡ padded size 0 (ys ++ xs)
+unfolding put padded
+put-padded size ys xs a e h =
+    let z : size - length ys - length xs ≡ size - (length ys + length xs) = (omega arith) in
+    rw (take-at ys (replicate (size - length ys) 0) a e, drop-at ys (replicate (size - length ys) 0) a e, drop-replicate (size - length ys) (length xs), z)
+    (simp (append-assoc, length-append))
+
+pub padded-inner : (size part : ℕ) (ys xs : List ℕ) → length xs ≤ part → length ys + part ≤ size → padded size 0 (ys ++ padded part 0 xs) ≡ padded size 0 (ys ++ xs)
+unfolding padded
+padded-inner size part ys xs h k =
+    let n : length (ys ++ (xs ++ replicate (part - length xs) 0)) ≡ length ys + part = simp (length-append, length-replicate) (omega arith) in
+    let m : length (ys ++ xs) ≡ length ys + length xs = length-append ys xs in
+    let z : part - length xs + (size - (length ys + part)) ≡ size - (length ys + length xs) = (omega arith) in
+    rw (n, m) (simp append-assoc (rw (replicate-append-replicate {A = ℕ} (part - length xs) (size - (length ys + part)) 0, z)))
+
+-- ---- a lent part, the m places from a on
+
+pub part-size : (a m : ℕ) (l : List ℕ) → a + m ≤ length l → length (take (a + m - a) (drop a l)) ≡ m
+part-size a m l h =
+    let z : a + m - a ≡ m = (omega arith) in
+    rw z (length-take-le m (drop a l) (simp length-drop (omega arith)))
+
+module _ (a m : ℕ) (l part : List ℕ) (lent : length part ≡ length (take (a + m - a) (drop a l))) (fits : a + m ≤ length l) where
+  pub part-long : length part ≡ m
+  part-long = lent ∙ part-size a m l fits
+
+  pub part-put : take a l ++ (part ++ drop (a + m - a) (drop a l)) ≡ put l a part
+  unfolding put
+  part-put =
+      let z : a + m - a ≡ length part = (omega (arith, part-long)) in
+      rw z
+
+  pub part-kept : length (take a l ++ (part ++ drop (a + m - a) (drop a l))) ≡ length l
+  part-kept = same-len-mid a (a + m - a) l part lent

@@ -1,0 +1,220 @@
+-- Reading front to back, one step more: what a loop over fields, rows or pieces needs.
+--   after after-after                 what is read behind what is in hand
+--   value-same bind-value require-value   a value that was read, taken apart
+--   fields-go fields-stop             one field more
+--   line-go line-stop line-open       a line from its fields
+--   judged                            a line that is judged when it is read
+--   rows-go rows-stop pieces-..       one row more, one piece more
+use mathlib.Core.Path.{_≡_, refl, sym, ap, _∙_}
+use mathlib.Core.Bool.{Bool, true, false, cond}
+use mathlib.Core.List.{List, [], _∷_, _++_, append-assoc, append-nil}
+use mathlib.Core.Logic.{_≢_}
+use Prim.Native.Nat.{ℕ, zero, suc, _+_, _-_, _*_, _≤_, _<_}
+use native.Mathlib.Omega.{arith}
+use borrow.Author.Tests.{leb-true, eq-eqb, ne-eqb}
+use lib.Dec.{eqb, leb}
+use lib.ListN.{getD, length, take, drop, set}
+use lib.Seq.{take-suc-set}
+use native.Mathlib.Numerals.{add-one}
+use Rattle.definitions.specs.declared.Field.{Field}
+use Rattle.definitions.specs.declared.Field.the-variants.{Number, Malformed}
+use Rattle.basics.specs.Tests.{Truth, holds, fails, truth}
+use Rattle.definitions.specs.Network.{Piece}
+use Rattle.definitions.specs.Judgement.{judgeSize, judgeVertices, judgeRow, judgeBlocks}
+use Rattle.definitions.specs.Text.{require, readRows, readPiece, pieceBytes, readPieces, fieldBytes, fieldAt, fieldOf, Read, refused, value, _>>=_, readField, readFields, judgeLineEnd, readLine, lineBytes}
+
+-- what is in hand, and then what is read
+unfoldable pub after : {A : Type 0} → List A → Read (List A) → Read (List A)
+after xs r = do
+  ys ← r
+  value (xs ++ ys)
+
+pub after-after : {A : Type 0} (xs ys : List A) (r : Read (List A)) → after xs (after ys r) ≡ after (xs ++ ys) r
+unfolding after
+after-after xs ys (refused k) = refl
+after-after xs ys (value zs) = ap value (sym (append-assoc xs ys zs))
+
+pub after-none : {A : Type 0} (r : Read (List A)) → after [] r ≡ r
+unfolding after
+after-none (refused k) = refl
+after-none (value zs) = refl
+
+-- ---- what was read, part by part
+
+pub value-same : {A : Type 0} (a b : A) → value a ≡ value b → a ≡ b
+value-same a b e = cc
+
+pub bind-value : {A B : Type 0} (r : Read A) (f : A → Read B) (b : B) → _>>=_ r f ≡ value b → (a : A) × (r ≡ value a) × (f a ≡ value b)
+bind-value (refused k) f b e = let z : _≡_ {A = ℕ} 0 1 = cc in absurd (omega arith)
+bind-value (value a) f b e = (a, refl, e)
+
+pub require-value : (k : ℕ) (u : Unit {0}) → require k ≡ value u → k ≡ 0
+require-value zero u e = refl
+require-value (suc k) u e = let z : _≡_ {A = ℕ} 0 1 = cc in absurd (omega arith)
+
+-- ---- fields
+
+pub field-go : (text : List ℕ) (at x : ℕ) → fieldAt text at ≡ Number x → readField text at ≡ value x
+unfolding readField
+field-go text at x e = rw e
+
+pub field-stop : (text : List ℕ) (at : ℕ) → fieldAt text at ≡ Malformed → readField text at ≡ refused 3
+unfolding readField
+field-stop text at e = rw e
+
+-- a field lies in the text
+pub field-in : (text : List ℕ) (at x : ℕ) → fieldAt text at ≡ Number x → at + 6 ≤ length text
+unfolding fieldAt
+field-in text at x e = go (truth (leb (at + 6) (length text)))
+  where
+    go : Truth (leb (at + 6) (length text)) → at + 6 ≤ length text
+    go (holds t) = leb-true (at + 6) (length text) t
+    go (fails t) = let bad : Malformed ≡ Number x = simp t at e in let z : _≡_ {A = ℕ} 0 1 = cc in absurd (omega arith)
+
+pub fields-go : (text : List ℕ) (at k x : ℕ) → fieldAt text at ≡ Number x → readFields text at (suc k) ≡ after (x ∷ []) (readFields text (at + fieldBytes) k)
+unfolding readFields after
+fields-go text at k x e = rw (field-go text at x e)
+
+pub fields-stop : (text : List ℕ) (at k : ℕ) → fieldAt text at ≡ Malformed → readFields text at (suc k) ≡ refused 3
+unfolding readFields
+fields-stop text at k e = rw (field-stop text at e)
+
+-- what a loop has read, with one field more
+pub fields-turn : (text : List ℕ) (at k i place x : ℕ) (out : List ℕ) → i < k → length out ≡ k → fieldAt text place ≡ Number x
+    → readFields text at k ≡ after (take i out) (readFields text place (k - i))
+    → readFields text at k ≡ after (take (i + 1) (set out i x)) (readFields text (place + 6) (k - (i + 1)))
+fields-turn text at k i place x out h l e q =
+    let z : k - i ≡ suc (k - (i + 1)) = (omega arith) in
+    let b : i < length out = (omega arith) in
+    q ∙ rw (z, fields-go text place (k - (i + 1)) x e, after-after, add-one i, take-suc-set out i x b)
+
+pub fields-in : (text : List ℕ) (at k : ℕ) (xs : List ℕ) → readFields text at k ≡ value xs → at ≤ length text → at + 6 * k ≤ length text
+unfolding after
+fields-in text at zero xs e h = omega arith
+fields-in text at (suc k) xs e h = go (λ ys q l. fields-in text (at + 6) k ys q l) (fieldAt text at) refl
+  where
+    next : (x : ℕ) (r : Read (List ℕ)) → readFields text (at + 6) k ≡ r → after (x ∷ []) r ≡ value xs → (ys : List ℕ) × (readFields text (at + 6) k ≡ value ys)
+    next x (refused j) p q = let z : _≡_ {A = ℕ} 0 1 = cc in absurd (omega arith)
+    next x (value ys) p q = (ys, p)
+
+    go : ((ys : List ℕ) → readFields text (at + 6) k ≡ value ys → at + 6 ≤ length text → at + 6 + 6 * k ≤ length text) → (f : Field) → fieldAt text at ≡ f → at + 6 * suc k ≤ length text
+    go rest (Number x) q = let w = next x (readFields text (at + 6) k) refl (sym (fields-go text at k x q) ∙ e) in omega (arith, rest (w .0) (w .1) (field-in text at x q))
+    go rest Malformed q = let bad : refused 3 ≡ value xs = sym (fields-stop text at k q) ∙ e in let z : _≡_ {A = ℕ} 0 1 = cc in absurd (omega arith)
+
+-- ---- a cause
+
+pub require-stop : (k : ℕ) → k ≢ 0 → require k ≡ refused k
+require-stop zero h = absurd (h refl)
+require-stop (suc k) h = refl
+
+-- ---- a line
+
+pub line-go : (text : List ℕ) (at k : ℕ) (xs : List ℕ) → readFields text at k ≡ value xs → getD text (at + fieldBytes * k) 0 ≡ 10 → readLine text at k ≡ value xs
+unfolding readLine judgeLineEnd
+line-go text at k xs e t = rw (e, eq-eqb _ _ t)
+
+pub line-stop : (text : List ℕ) (at k j : ℕ) → readFields text at k ≡ refused j → readLine text at k ≡ refused j
+unfolding readLine
+line-stop text at k j e = rw e
+
+pub line-open : (text : List ℕ) (at k : ℕ) (xs : List ℕ) → readFields text at k ≡ value xs → getD text (at + fieldBytes * k) 0 ≢ 10 → readLine text at k ≡ refused 3
+unfolding readLine judgeLineEnd
+line-open text at k xs e t = rw (e, ne-eqb _ _ t)
+
+-- what is read, judged
+unfoldable pub judged : {A : Type 0} → (A → ℕ) → Read A → Read A
+judged cause r = do
+  a ← r
+  _ ← require (cause a)
+  value a
+
+pub judged-go : {A : Type 0} (cause : A → ℕ) (r : Read A) (a : A) → r ≡ value a → cause a ≡ 0 → judged cause r ≡ value a
+unfolding judged
+judged-go cause r a e t = rw (e, t)
+
+pub judged-out : {A : Type 0} (cause : A → ℕ) (r : Read A) (a : A) → r ≡ value a → cause a ≢ 0 → judged cause r ≡ refused (cause a)
+unfolding judged
+judged-out cause r a e t = rw (e, require-stop (cause a) t)
+
+pub judged-stop : {A : Type 0} (cause : A → ℕ) (r : Read A) (k : ℕ) → r ≡ refused k → judged cause r ≡ refused k
+unfolding judged
+judged-stop cause r k e = rw e
+
+-- the refusal that a judgement gives comes before what is read next
+judged-bind : {A B : Type 0} (cause : A → ℕ) (r : Read A) (f : A → Read B) → _>>=_ r (λ a. _>>=_ (require (cause a)) (λ _. f a)) ≡ _>>=_ (judged cause r) f
+unfolding judged
+judged-bind cause (refused k) f = refl
+judged-bind {A} {B} cause (value a) f = go (require (cause a))
+  where
+    go : (q : Read (Unit {0})) → _>>=_ q (λ _. f a) ≡ _>>=_ (_>>=_ q (λ _. value a)) f
+    go (refused k) = refl
+    go (value u) = refl
+
+-- ---- rows
+
+module _ (text : List ℕ) (at m i k : ℕ) where
+  rows-by : readRows text at m i (suc k) ≡ _>>=_ (judged (judgeRow i) (readLine text at m)) (λ row. after (row ∷ []) (readRows text (at + lineBytes m) m (suc i) k))
+  unfolding readRows after
+  rows-by = judged-bind (judgeRow i) (readLine text at m) (λ row. after (row ∷ []) (readRows text (at + lineBytes m) m (suc i) k))
+
+  pub rows-go : (row : List ℕ) → judged (judgeRow i) (readLine text at m) ≡ value row → readRows text at m i (suc k) ≡ after (row ∷ []) (readRows text (at + lineBytes m) m (suc i) k)
+  rows-go row e = rows-by ∙ rw e
+
+  pub rows-stop : (j : ℕ) → judged (judgeRow i) (readLine text at m) ≡ refused j → readRows text at m i (suc k) ≡ refused j
+  rows-stop j e = rows-by ∙ rw e
+
+-- ---- a piece
+
+-- the piece of vertices and rows
+abbrev pub pieceOf : List ℕ → List (List ℕ) → Piece
+pieceOf vertices rows = record { vertices = vertices; rows = rows }
+
+module _ (text : List ℕ) (n at : ℕ) where
+  -- what follows the size, and what follows the vertices
+  rest-rows : ℕ → List ℕ → Read Piece
+  rest-rows m vertices = do
+    rows ← readRows text (at + lineBytes (suc m)) m 0 m
+    _ ← require (judgeBlocks (pieceOf vertices rows))
+    value (pieceOf vertices rows)
+
+  rest-vertices : ℕ → Read Piece
+  rest-vertices m = do
+    vertices ← readLine text (at + fieldBytes) m
+    _ ← require (judgeVertices n vertices)
+    rest-rows m vertices
+
+  piece-by : readPiece text n at ≡ _>>=_ (judged judgeSize (readField text at)) rest-vertices
+  unfolding readPiece rest-vertices rest-rows
+  piece-by = judged-bind judgeSize (readField text at) rest-vertices
+
+  pub piece-size : (k : ℕ) → judged judgeSize (readField text at) ≡ refused k → readPiece text n at ≡ refused k
+  piece-size k e = piece-by ∙ rw e
+
+  module _ (m : ℕ) (sized : judged judgeSize (readField text at) ≡ value m) where
+    vertices-by : readPiece text n at ≡ _>>=_ (judged (judgeVertices n) (readLine text (at + fieldBytes) m)) (rest-rows m)
+    unfolding rest-vertices
+    vertices-by = piece-by ∙ rw sized (judged-bind (judgeVertices n) (readLine text (at + fieldBytes) m) (rest-rows m))
+
+    pub piece-vertices : (k : ℕ) → judged (judgeVertices n) (readLine text (at + fieldBytes) m) ≡ refused k → readPiece text n at ≡ refused k
+    piece-vertices k e = vertices-by ∙ rw e
+
+    module _ (vertices : List ℕ) (listed : judged (judgeVertices n) (readLine text (at + fieldBytes) m) ≡ value vertices) where
+      rows-of-piece : readPiece text n at ≡ _>>=_ (judged (λ rows. judgeBlocks (pieceOf vertices rows)) (readRows text (at + lineBytes (suc m)) m 0 m)) (λ rows. value (pieceOf vertices rows))
+      unfolding rest-rows
+      rows-of-piece = vertices-by ∙ rw listed (judged-bind (λ rows. judgeBlocks (pieceOf vertices rows)) (readRows text (at + lineBytes (suc m)) m 0 m) (λ rows. value (pieceOf vertices rows)))
+
+      pub piece-rows : (k : ℕ) → judged (λ rows. judgeBlocks (pieceOf vertices rows)) (readRows text (at + lineBytes (suc m)) m 0 m) ≡ refused k → readPiece text n at ≡ refused k
+      piece-rows k e = rows-of-piece ∙ rw e
+
+      pub piece-go : (rows : List (List ℕ)) → judged (λ rows. judgeBlocks (pieceOf vertices rows)) (readRows text (at + lineBytes (suc m)) m 0 m) ≡ value rows → readPiece text n at ≡ value (pieceOf vertices rows)
+      piece-go rows e = rows-of-piece ∙ rw e
+
+-- ---- pieces
+
+pub pieces-go : (text : List ℕ) (n at k : ℕ) (q : Piece) → readPiece text n at ≡ value q → readPieces text n at (suc k) ≡ after (q ∷ []) (readPieces text n (at + pieceBytes q) k)
+unfolding readPieces after
+pieces-go text n at k q e = rw e
+
+pub pieces-stop : (text : List ℕ) (n at k j : ℕ) → readPiece text n at ≡ refused j → readPieces text n at (suc k) ≡ refused j
+unfolding readPieces
+pieces-stop text n at k j e = rw e

@@ -1,0 +1,339 @@
+// The text reader: text of at most 60,000 bytes into the lent sizes, vertices and lengths.
+ghost use mathlib.Core.Path.{_≡_};
+ghost use mathlib.Core.List.{List, []};
+ghost use Prim.Native.Nat.{ℕ, _+_, _*_, _<_, _≤_};
+ghost use lib.ListN.{length, replicate};
+ghost use Rattle.definitions.specs.Limits.{sizePlaces, tablePlaces};
+ghost use Rattle.definitions.specs.Network.{Piece};
+ghost use Rattle.definitions.specs.Judgement.{judgeSize, judgeVertices, judgeRow};
+ghost use Rattle.definitions.specs.Text.{readField, readFields, readLine, readRows, readPiece, readPieces};
+ghost use Rattle.definitions.specs.Entries.{readRefusal, reading};
+ghost use Rattle.text.specs.Outcomes.{Came, Holds, Is, RowsLeft};
+ghost use Rattle.text.specs.Reading.{judged};
+ghost use Rattle.text.specs.Pieces.{Held, Room, TableRead, PieceLeft, PiecesLeft};
+ghost use Rattle.text.specs.Plans.{readQuestion, PlanRead, After};
+use definitions::Field;
+use definitions::ReadAnswer;
+
+// The fields of a line from `at` on, as many as `out` has places; 3 if one is not a field.
+fn read_fields(text: &[u8], at: usize, out: &mut [u32]) -> u32
+    requires { ⌜ at ≤ length (now text) ⌝ }
+    ensures { λ r. ⌜ Came (readFields (now (text .entry)) at (length (now (out .entry)))) r (Holds (now (out .exit))) ⌝ }
+{
+    let mut i = 0;
+    let mut place = at;
+    while i < out.len() {
+        let field = fields::read_field(text, place);
+        let Field::Number(x) = field else {
+            return 3;
+        };
+        out[i] = x;
+        place += 6;
+        i += 1;
+    }
+    0
+}
+
+// A line's layout: its fields, then one byte 10.
+fn read_line(text: &[u8], at: usize, out: &mut [u32]) -> u32
+    requires { ⌜ at ≤ length (now text) ⌝ }
+    ensures { λ r. ⌜ Came (readLine (now (text .entry)) at (length (now (out .entry)))) r (Holds (now (out .exit))) ⌝ }
+{
+    let k = out.len();
+    let cause = read_fields(text, at, out);
+    if cause != 0 {
+        return cause;
+    }
+    let end = at + 6 * k;
+    if end >= text.len() {
+        return 3;
+    }
+    if text[end] != 10 {
+        return 3;
+    }
+    0
+}
+
+// A line of vertices, then their judgement.
+fn read_vertices(text: &[u8], at: usize, n: u32, out: &mut [u32]) -> u32
+    requires { ⌜ at ≤ length (now text) ⌝ }
+    ensures { λ r. ⌜ Came (judged (judgeVertices n) (readLine (now (text .entry)) at (length (now (out .entry))))) r (Holds (now (out .exit))) ⌝ }
+{
+    let cause = read_line(text, at, out);
+    if cause != 0 {
+        return cause;
+    }
+    checks::judge_vertices(n, out)
+}
+
+// Row i of a table, then its judgement.
+fn read_row(text: &[u8], at: usize, i: usize, out: &mut [u32]) -> u32
+    requires { ⌜ at ≤ length (now text) ⌝ }
+    ensures { λ r. ⌜ Came (judged (judgeRow i) (readLine (now (text .entry)) at (length (now (out .entry))))) r (Holds (now (out .exit))) ⌝ }
+{
+    let cause = read_line(text, at, out);
+    if cause != 0 {
+        return cause;
+    }
+    checks::judge_row(i, out)
+}
+
+// A piece's size, judged before the rest of its line is looked at.
+struct Size {
+    number: u32,
+    m: u32,
+}
+
+fn read_size(text: &[u8], at: usize) -> Size
+    ensures { λ r. ⌜ Came (judged judgeSize (readField (now (text .entry)) at)) (r .number) (Is (r .m)) ⌝ }
+{
+    let field = fields::read_field(text, at);
+    let Field::Number(m) = field else {
+        return Size { number: 3, m: 0 };
+    };
+    Size {
+        number: checks::judge_size(m),
+        m,
+    }
+}
+
+// The rows of a table, each judged as it is read, into 24 rows of 24 places that are 0.
+fn read_rows(text: &[u8], at: usize, m: usize, table: &mut [u32]) -> u32
+    requires { ⌜ (at ≤ length (now text)) × (m ≤ 24) × (now table ≡ replicate tablePlaces 0) ⌝ }
+    ensures { λ r. ⌜ Came (readRows (now (text .entry)) at m 0 m) r (RowsLeft (now (text .entry)) at m (now (table .exit))) ⌝ }
+{
+    let mut i = 0;
+    let mut place = at;
+    while i < m {
+        let a = 24 * i;
+        let e = a + m;
+        let cause = read_row(text, place, i, &mut table[a..e]);
+        if cause != 0 {
+            return cause;
+        }
+        place += 6 * m + 1;
+        i += 1;
+    }
+    0
+}
+
+// A table's rows, then the check of its blocks.
+fn read_table(text: &[u8], at: usize, m: usize, table: &mut [u32]) -> u32
+    requires { ⌜ (at ≤ length (now text)) × (1 ≤ m) × (m ≤ 24) × (now table ≡ replicate tablePlaces 0) ⌝ }
+    ensures { λ r. ⌜ TableRead (now (text .entry)) at m r (now (table .exit)) ⌝ }
+{
+    let cause = read_rows(text, at, m, table);
+    if cause != 0 {
+        return cause;
+    }
+    checks::judge_blocks(m as u32, table)
+}
+
+// The cause that a piece gives, or 0 and where the next line begins.
+struct Progress {
+    number: u32,
+    next: usize,
+}
+
+// Piece d, behind those that the buffers hold already.
+fn read_piece(
+    text: &[u8],
+    at: usize,
+    n: u32,
+    d: usize,
+    sizes: &mut [u32],
+    vertices: &mut [u32],
+    lengths: &mut [u32],
+) -> Progress
+    requires { ⌜ (at ≤ length (now text)) × (d < sizePlaces) × Room d (now sizes) (now vertices) (now lengths) ⌝ }
+    ensures { λ r. ⌜ ((qs : List Piece) → length qs ≡ d → Held qs (now (sizes .entry)) (now (vertices .entry)) (now (lengths .entry)) → Came (readPiece (now (text .entry)) n at) (r .number) (PieceLeft (now (text .entry)) at qs (r .next) (now (sizes .exit)) (now (vertices .exit)) (now (lengths .exit)))) ⌝ }
+{
+    let size = read_size(text, at);
+    let number = size.number;
+    if number != 0 {
+        return Progress { number, next: at };
+    }
+    let m = size.m as usize;
+    let a = 24 * d;
+    let e = a + m;
+    let listed = read_vertices(text, at + 6, n, &mut vertices[a..e]);
+    if listed != 0 {
+        return Progress {
+            number: listed,
+            next: at,
+        };
+    }
+    let rows = at + 6 * m + 7;
+    let b = 576 * d;
+    let f = b + 576;
+    let table = read_table(text, rows, m, &mut lengths[b..f]);
+    if table != 0 {
+        return Progress {
+            number: table,
+            next: at,
+        };
+    }
+    sizes[d] = size.m;
+    Progress {
+        number: 0,
+        next: rows + m * (6 * m + 1),
+    }
+}
+
+// All pieces, one after the other, into buffers that are 0.
+fn read_pieces(
+    text: &[u8],
+    at: usize,
+    n: u32,
+    p: usize,
+    sizes: &mut [u32],
+    vertices: &mut [u32],
+    lengths: &mut [u32],
+) -> Progress
+    requires { ⌜ (at ≤ length (now text)) × (p ≤ sizePlaces) × Held [] (now sizes) (now vertices) (now lengths) ⌝ }
+    ensures { λ r. ⌜ Came (readPieces (now (text .entry)) n at p) (r .number) (PiecesLeft (now (text .entry)) at p (r .next) (now (sizes .exit)) (now (vertices .exit)) (now (lengths .exit))) ⌝ }
+{
+    let mut d = 0;
+    let mut place = at;
+    while d < p {
+        let piece = read_piece(text, place, n, d, sizes, vertices, lengths);
+        let number = piece.number;
+        if number != 0 {
+            return Progress {
+                number,
+                next: place,
+            };
+        }
+        place = piece.next;
+        d += 1;
+    }
+    Progress {
+        number: 0,
+        next: place,
+    }
+}
+
+// A question: the cause that it gives, or 0 and the source.
+struct Question {
+    number: u32,
+    source: u32,
+}
+
+// The question line, the judgement of its source, and then the text's end.
+fn read_question(text: &[u8], at: usize, n: u32) -> Question
+    requires { ⌜ at ≤ length (now text) ⌝ }
+    ensures { λ r. ⌜ Came (readQuestion (now (text .entry)) n at) (r .number) (Is (r .source)) ⌝ }
+{
+    let mut line = [0u32; 1];
+    let cause = read_line(text, at, &mut line);
+    let source = line[0];
+    if cause != 0 {
+        return Question {
+            number: cause,
+            source,
+        };
+    }
+    let outside = checks::judge_source(n, source);
+    if outside != 0 {
+        return Question {
+            number: outside,
+            source,
+        };
+    }
+    if text.len() - at != 7 {
+        return Question { number: 3, source };
+    }
+    Question { number: 0, source }
+}
+
+fn refusal(number: u32) -> ReadAnswer
+    ensures { λ r. ⌜ r ≡ readRefusal number ⌝ }
+{
+    ReadAnswer {
+        number,
+        n: 0,
+        p: 0,
+        source: 0,
+    }
+}
+
+// The text from front to back, into buffers that are 0.
+fn read_plan(
+    text: &[u8],
+    sizes: &mut [u32],
+    vertices: &mut [u32],
+    lengths: &mut [u32],
+) -> ReadAnswer
+    requires { ⌜ Held [] (now sizes) (now vertices) (now lengths) ⌝ }
+    ensures { λ r. ⌜ PlanRead (now (text .entry)) r (now (sizes .exit)) (now (vertices .exit)) (now (lengths .exit)) ⌝ }
+{
+    let mut line = [0u32; 2];
+    let cause = read_line(text, 0, &mut line);
+    if cause != 0 {
+        return refusal(cause);
+    }
+    let n = line[0];
+    let p = line[1];
+    let bounds = checks::judge_bounds(n, p);
+    if bounds != 0 {
+        return refusal(bounds);
+    }
+    let pieces = read_pieces(text, 13, n, p as usize, sizes, vertices, lengths);
+    let number = pieces.number;
+    if number != 0 {
+        return refusal(number);
+    }
+    let next = pieces.next;
+    let question = read_question(text, next, n);
+    let asked = question.number;
+    if asked != 0 {
+        return refusal(asked);
+    }
+    ReadAnswer {
+        number: 0,
+        n,
+        p,
+        source: question.source,
+    }
+}
+
+fn clear(buffer: &mut [u32])
+    ensures { λ _. ⌜ now (buffer .exit) ≡ replicate (length (now (buffer .entry))) 0 ⌝ }
+{
+    let mut i = 0;
+    while i < buffer.len() {
+        buffer[i] = 0;
+        i += 1;
+    }
+}
+
+// Reads a text into the lent sizes, vertices and lengths. A buffer of another size (1) or a text that is too long (2) leaves them; any
+// other refusal leaves them all 0.
+pub fn read_text(
+    text: &[u8],
+    sizes: &mut [u32],
+    vertices: &mut [u32],
+    lengths: &mut [u32],
+) -> ReadAnswer
+    ensures { λ r. ⌜ After r (now (sizes .exit)) (now (vertices .exit)) (now (lengths .exit)) ≡ reading (now (text .entry)) (now (sizes .entry)) (now (vertices .entry)) (now (lengths .entry)) ⌝ }
+{
+    let buffers = checks::judge_buffers(sizes.len(), vertices.len(), lengths.len());
+    if buffers != 0 {
+        return refusal(buffers);
+    }
+    if text.len() > 60000 {
+        return refusal(2);
+    }
+    clear(sizes);
+    clear(vertices);
+    clear(lengths);
+    let answer = read_plan(text, sizes, vertices, lengths);
+    let number = answer.number;
+    if number == 0 {
+        return answer;
+    }
+    clear(sizes);
+    clear(vertices);
+    clear(lengths);
+    answer
+}
