@@ -1,0 +1,90 @@
+-- `answer::put_vertices` meets its contract. The loop's invariant: the lines of the vertices from v on, put behind what stands in the
+-- output, give the whole.
+use mathlib.Core.Path.{_≡_, sym, _∙_}
+use mathlib.Core.List.{[], _∷_}
+use Prim.Native.Nat.{_+_, _-_, _*_, _≤_}
+use native.Mathlib.Omega.{arith}
+use borrow.Author.Needs.{needs}
+use lib.ListN.{getD, length}
+use Rattle.answer.specs.Listing.{listingLineBytes}
+use Rattle.answer.specs.Output.{put}
+use Rattle.answer.specs.Lines.{length-line, vertexLines, length-vertices, vertices-turn, vertices-all}
+use Rattle.answer.proofs.put_vertices.Statement.{statement}
+use Rattle.answer.proofs.put_vertices.Tie as tie
+
+abbrev Inv-loop : tie.InvT-loop
+Inv-loop out₀ at n labels place₀ v₀ out place v =
+    (1 ≤ v) × (v ≤ n + 1) × (length out ≡ length out₀) × (place ≡ at + (v - 1) * listingLineBytes 2) × (put out₀ at (vertexLines labels 1 n) ≡ put out place (vertexLines labels v (n + 1 - v)))
+
+abbrev μ-loop : tie.MeasureT-loop
+μ-loop out₀ at n labels place₀ v₀ out place v = n + 1 - v
+
+loop-holds : tie.Need-loop-holds Inv-loop μ-loop
+loop-holds c =
+    let a = c .before .before .args in
+    let z : a .n + 1 - 1 ≡ a .n = omega arith in
+    (search needs, search needs, search needs, search needs, rw z)
+
+cast-label : tie.Need-cast-label Inv-loop μ-loop
+cast-label c = search needs
+
+sub-label : tie.Need-sub-label Inv-loop μ-loop
+sub-label c = search needs
+
+mul-label : tie.Need-mul-label Inv-loop μ-loop
+mul-label c = search needs
+
+shared-slice-read-label : tie.Need-shared-slice-read-label Inv-loop μ-loop
+shared-slice-read-label c = search needs
+
+slice-aggregate-put-fields : tie.Need-slice-aggregate-put-fields Inv-loop μ-loop
+slice-aggregate-put-fields c = search needs
+
+put-fields-requires : tie.Need-put-fields-requires Inv-loop μ-loop
+put-fields-requires c κs = search needs
+
+add-v : tie.Need-add-v Inv-loop μ-loop
+add-v c = search needs
+
+loop-less : tie.Need-loop-less Inv-loop μ-loop
+loop-less c = search needs
+
+loop-again : tie.Need-loop-again Inv-loop μ-loop
+loop-again c =
+    let l = c .before .before .before .before .before .before .before .loop in
+    let a = c .before .before .before .before .before .before .before .before .before .before .args in
+    let p = c .before .before .put-fields .ensures in
+    let turn = vertices-turn (a .labels .now) (l .out) (l .place) (a .n) (l .v) _ _ (omega arith) (omega arith) p in
+    (search needs, search needs, search needs, omega (arith, p .behind, length-line (l .v ∷ getD (a .labels .now) (l .v - 1) 0 ∷ [])), l .inv .4 ∙ turn)
+
+same-length : tie.Need-same-length Inv-loop μ-loop
+same-length c = search needs
+
+returns : tie.Need-returns Inv-loop μ-loop
+returns c =
+    let l = c .before .loop in
+    let a = c .before .before .before .before .args in
+    let e : l .v ≡ a .n + 1 = omega arith in
+    record {
+      behind = omega (arith, length-vertices (a .labels .now) 1 (a .n));
+      stands = sym (l .inv .4 ∙ vertices-all (a .labels .now) (l .out) (l .place) (a .n) (l .v) e);
+    }
+
+pub put-vertices-spec : {M : Type 1} → statement M
+put-vertices-spec =
+    tie.close
+    (tie.spec
+    Inv-loop
+    μ-loop
+    loop-holds
+    cast-label
+    sub-label
+    mul-label
+    shared-slice-read-label
+    slice-aggregate-put-fields
+    put-fields-requires
+    add-v
+    loop-less
+    loop-again
+    same-length
+    returns)

@@ -1,0 +1,6 @@
+-- What the listing's writer leaves, and the laws of its parts.
+pub mod Listing
+pub mod Output
+pub mod Lines
+pub mod Refusals
+pub mod Answers

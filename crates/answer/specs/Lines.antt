@@ -1,0 +1,75 @@
+-- The lines of a listing.
+--   length-line            a line of k fields has 9·k + 1 bytes
+--   fields-turn fields-all a line's fields, written one by one
+--   vertexLines vertices-next length-vertices   the lines of the vertices, one by one
+use mathlib.Core.Path.{_≡_, sym, _∙_}
+use mathlib.Core.List.{List, [], _∷_, _++_, flatMap, append-assoc}
+use Prim.Native.Nat.{ℕ, zero, suc, _+_, _-_, _*_, _≤_, _<_}
+use native.Mathlib.Numerals.{add-one}
+use native.Mathlib.Omega.{arith}
+use borrow.Author.Tests.{eq-eqb, le-leb}
+use lib.ListN.{getD, length, take, drop, length-append}
+use lib.Seq.{take-at, take-all, take-suc, length-take-le}
+use Rattle.definitions.specs.Limits.{linePlaces}
+use Rattle.definitions.specs.Lists.{upFrom, firstCause}
+use Rattle.definitions.specs.Text.{lineEnd}
+use Rattle.definitions.specs.Entries.{columnBytes, hasPlaces, nineColumns, judgeWrite, writeField, listingLine}
+use Rattle.fields.specs.Writing.{length-nineColumns}
+use Rattle.basics.specs.Buffers.{flatMap-snoc}
+use Rattle.answer.specs.Listing.{listingLineBytes}
+use Rattle.answer.specs.Output.{put, Put, put-nothing, put-then}
+
+length-fields : (xs : List ℕ) → length (flatMap nineColumns xs) ≡ columnBytes * length xs
+unfolding flatMap
+length-fields [] = omega arith
+length-fields (x ∷ xs) = length-append (nineColumns x) (flatMap nineColumns xs) ∙ omega (arith, length-nineColumns x, length-fields xs)
+
+pub length-line : (xs : List ℕ) → length (listingLine xs) ≡ listingLineBytes (length xs)
+unfolding listingLine
+length-line xs = length-append (flatMap nineColumns xs) (lineEnd ∷ []) ∙ omega (arith, length-fields xs)
+
+-- ---- the fields of a line
+
+-- one field more
+pub fields-turn : (line numbers : List ℕ) (i : ℕ) → length line ≡ linePlaces → length numbers ≤ 4 → i < length numbers → take (9 * i) line ≡ flatMap nineColumns (take i numbers)
+    → take (9 * (i + 1)) ((writeField line i (getD numbers i 0)) .line) ≡ flatMap nineColumns (take (i + 1) numbers)
+unfolding writeField judgeWrite hasPlaces firstCause
+fields-turn line numbers i long few h e =
+    let x = getD numbers i 0 in
+    let z : i ≤ 3 = omega arith in
+    let end : length (take (9 * i) line ++ nineColumns x) ≡ 9 * (i + 1) = length-append (take (9 * i) line) (nineColumns x) ∙ omega (arith, length-nineColumns x, length-take-le (9 * i) line (omega arith)) in
+    simp (eq-eqb _ _ long, le-leb _ _ z)
+    (rw (← append-assoc (take (9 * i) line) (nineColumns x) (drop (9 * i + 9) line), take-at (take (9 * i) line ++ nineColumns x) (drop (9 * i + 9) line) (9 * (i + 1)) end, e, add-one i, take-suc numbers i 0 h)
+    (sym (flatMap-snoc nineColumns (take i numbers) x)))
+
+-- all of them, and the byte 10
+pub fields-all : (line numbers : List ℕ) (i : ℕ) → i ≡ length numbers → take (9 * i) line ≡ flatMap nineColumns (take i numbers) → take (9 * i) line ++ (lineEnd ∷ []) ≡ listingLine numbers
+unfolding listingLine
+fields-all line numbers i h e = rw (e, take-all i numbers (omega arith))
+
+-- ---- the lines of vertices
+
+-- k vertices from v on, with the labels that a buffer holds
+unfoldable pub vertexLines : List ℕ → ℕ → ℕ → List ℕ
+vertexLines labels v k = flatMap (λ w. listingLine (w ∷ getD labels (w - 1) 0 ∷ [])) (upFrom v k)
+
+pub length-vertices : (labels : List ℕ) (v k : ℕ) → length (vertexLines labels v k) ≡ k * listingLineBytes 2
+unfolding vertexLines flatMap upFrom
+length-vertices labels v zero = omega arith
+length-vertices labels v (suc k) =
+    length-append (listingLine (v ∷ getD labels (v - 1) 0 ∷ [])) (vertexLines labels (suc v) k)
+    ∙ omega (arith, length-line (v ∷ getD labels (v - 1) 0 ∷ []), length-vertices labels (suc v) k)
+
+module _ (labels out : List ℕ) (place n v : ℕ) where
+  -- one vertex more
+  pub vertices-turn : (next : ℕ) (left : List ℕ) → v ≤ n → place ≤ length out → Put out place (listingLine (v ∷ getD labels (v - 1) 0 ∷ [])) next left
+      → put out place (vertexLines labels v (n + 1 - v)) ≡ put left next (vertexLines labels (v + 1) (n + 1 - (v + 1)))
+  unfolding vertexLines flatMap upFrom
+  vertices-turn next left h room p =
+      let z : n + 1 - v ≡ suc (n + 1 - (v + 1)) = omega arith in
+      rw (z, add-one v) (sym (put-then out place (listingLine (v ∷ getD labels (v - 1) 0 ∷ [])) (vertexLines labels (suc v) (n + 1 - suc v)) next left p room))
+
+  -- none is left
+  pub vertices-all : v ≡ n + 1 → put out place (vertexLines labels v (n + 1 - v)) ≡ out
+  unfolding vertexLines flatMap upFrom
+  vertices-all h = let z : n + 1 - v ≡ 0 = omega arith in rw z (put-nothing out place)

@@ -1,0 +1,104 @@
+// The listing of a text: what the program `labels` writes for the bytes that it reads.
+ghost use mathlib.Core.Path.{_≡_};
+ghost use mathlib.Core.List.{[], _∷_, _++_};
+ghost use Prim.Native.Nat.{_+_, _*_, _≤_};
+ghost use lib.ListN.{length};
+ghost use Rattle.definitions.specs.Limits.{maxVertices, labelPlaces};
+ghost use Rattle.definitions.specs.Text.{lineEnd};
+ghost use Rattle.definitions.specs.Entries.{listingLine, refusalLine};
+ghost use Rattle.answer.specs.Listing.{listingLineBytes, After, writeListing};
+ghost use Rattle.answer.specs.Output.{Put};
+ghost use Rattle.answer.specs.Lines.{vertexLines};
+use bounds::Network;
+
+// The places of the output, room for the longest listing: a line of four fields, and one of two for each vertex.
+pub const LISTING_BYTES: usize = 37 + 19 * Network::LABEL_PLACES;
+
+// Puts a line and the byte 10 behind it into the output from a place on; the place behind them.
+fn put_line(out: &mut [u8], at: usize, line: &[u8]) -> usize
+    requires { ⌜ at + length (now line) + 1 ≤ length (now out) ⌝ }
+    ensures { λ r. ⌜ Put (now (out .entry)) at (now (line .entry) ++ (lineEnd ∷ [])) r (now (out .exit)) ⌝ }
+{
+    let mut i = 0;
+    while i < line.len() {
+        out[at + i] = line[i];
+        i += 1;
+    }
+    let end = at + i;
+    out[end] = 10;
+    end + 1
+}
+
+// Puts a line of up to four fields of nine columns.
+fn put_fields(out: &mut [u8], at: usize, numbers: &[u32]) -> usize
+    requires { ⌜ (length (now numbers) ≤ 4) × (at + listingLineBytes (length (now numbers)) ≤ length (now out)) ⌝ }
+    ensures { λ r. ⌜ Put (now (out .entry)) at (listingLine (now (numbers .entry))) r (now (out .exit)) ⌝ }
+{
+    let mut line = [b' '; 36];
+    let mut i = 0;
+    while i < numbers.len() {
+        fields::write_field(&mut line, i, numbers[i]);
+        i += 1;
+    }
+    let end = 9 * i;
+    put_line(out, at, &line[..end])
+}
+
+// Puts the lines of the vertices 1 to n, each with its label.
+fn put_vertices(out: &mut [u8], at: usize, n: u32, labels: &[u32]) -> usize
+    requires { ⌜ (n ≤ maxVertices) × (length (now labels) ≡ labelPlaces) × (at + n * listingLineBytes 2 ≤ length (now out)) ⌝ }
+    ensures { λ r. ⌜ Put (now (out .entry)) at (vertexLines (now (labels .entry)) 1 n) r (now (out .exit)) ⌝ }
+{
+    let mut place = at;
+    let mut v: u32 = 1;
+    while v <= n {
+        let label = labels[v as usize - 1];
+        place = put_fields(out, place, &[v, label]);
+        v += 1;
+    }
+    place
+}
+
+// Puts the line of a refusal, whose number has one digit.
+fn put_refusal(out: &mut [u8], number: u32) -> usize
+    requires { ⌜ (number ≤ 8) × (10 ≤ length (now out)) ⌝ }
+    ensures { λ r. ⌜ Put (now (out .entry)) 0 (refusalLine number) r (now (out .exit)) ⌝ }
+{
+    let line = [
+        b'r',
+        b'e',
+        b'f',
+        b'u',
+        b's',
+        b'e',
+        b'd',
+        b' ',
+        b'0' + number as u8,
+    ];
+    put_line(out, 0, &line)
+}
+
+// Writes what the program `labels` prints for a text to the front of the output, and returns how many bytes that is; what stands
+// behind them stays. An output of another size is left as it was, and 0 is returned.
+pub fn write_listing(text: &[u8], out: &mut [u8]) -> usize
+    ensures { λ r. ⌜ After r (now (out .exit)) ≡ writeListing (now (text .entry)) (now (out .entry)) ⌝ }
+{
+    if out.len() != LISTING_BYTES {
+        return 0;
+    }
+    let mut sizes = [0u32; Network::SIZE_PLACES];
+    let mut vertices = [0u32; Network::VERTEX_PLACES];
+    let mut lengths = [0u32; Network::LENGTH_PLACES];
+    let read = text::read_text(text, &mut sizes, &mut vertices, &mut lengths);
+    let number = read.number;
+    if number != 0 {
+        return put_refusal(out, number);
+    }
+    let n = read.n;
+    let source = read.source;
+    let mut labels = [0u32; Network::LABEL_PLACES];
+    let done = engine::label_network(n, read.p, &sizes, &vertices, &lengths, source, &mut labels);
+    let counts = [source, done.reached, done.extracted, done.inserted];
+    let next = put_fields(out, 0, &counts);
+    put_vertices(out, next, n, &labels)
+}

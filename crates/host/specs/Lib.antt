@@ -1,0 +1,2 @@
+-- What the exported entries promise beyond those that they call.
+pub mod Host

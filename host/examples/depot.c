@@ -1,0 +1,72 @@
+/* What a unit's firmware does: reads a plan, labels its gates, and asks one block a few calls. */
+#include <stdio.h>
+#include <string.h>
+
+#include "rabdzhine.h"
+
+static const char PLAN[] =
+    "     5     1\n"
+    "     4     1     2     3     4\n"
+    "     0     3     7     5\n"
+    "     3     0     4     6\n"
+    "     7     4     0     2\n"
+    "     5     6     2     0\n"
+    "     1\n";
+
+/* static: a small stack need not hold them */
+static uint32_t sizes[RABDZHINE_SIZES], vertices[RABDZHINE_VERTICES], lengths[RABDZHINE_LENGTHS], labels[RABDZHINE_LABELS];
+static uint32_t rectangle[RABDZHINE_RECTANGLE], calls[RABDZHINE_CALLS], answers[RABDZHINE_ANSWERS], intervals[RABDZHINE_INTERVALS];
+static uint8_t listing[RABDZHINE_LISTING];
+
+static int label_plan(void) {
+    rabdzhine_read_answer plan = rabdzhine_read_text((const uint8_t *)PLAN, strlen(PLAN), sizes, RABDZHINE_SIZES,
+                                                     vertices, RABDZHINE_VERTICES, lengths, RABDZHINE_LENGTHS);
+    if (plan.number != 0) {
+        printf("refused %u\n", (unsigned)plan.number);
+        return 1;
+    }
+    rabdzhine_label_answer done = rabdzhine_label_network(plan.n, plan.p, sizes, RABDZHINE_SIZES, vertices, RABDZHINE_VERTICES,
+                                                          lengths, RABDZHINE_LENGTHS, plan.source, labels, RABDZHINE_LABELS);
+    printf("%u gates, %u districts, from gate %u\n", (unsigned)plan.n, (unsigned)plan.p, (unsigned)plan.source);
+    printf("number %u, %u gates reached, %u takes, %u brought in\n", (unsigned)done.number, (unsigned)done.reached,
+           (unsigned)done.extracted, (unsigned)done.inserted);
+    for (uint32_t v = 1; v <= plan.n; v++) {
+        if (labels[v - 1] == RABDZHINE_UNREACHED) {
+            printf("gate %u: no run\n", (unsigned)v);
+        } else {
+            printf("gate %u: %u m\n", (unsigned)v, (unsigned)labels[v - 1]);
+        }
+    }
+    return 0;
+}
+
+static void run_calls(void) {
+    static const uint32_t script[12] = {1, 0, 0, 1, 1, 2, 2, 0, 0, 1, 1, 9};
+    rectangle[0] = 5, rectangle[1] = 7, rectangle[24] = 6, rectangle[25] = 4;
+    memcpy(calls, script, sizeof script);
+    rabdzhine_session_answer done = rabdzhine_run_session(2, 2, 4, rectangle, RABDZHINE_RECTANGLE, calls, RABDZHINE_CALLS,
+                                                          answers, RABDZHINE_ANSWERS, intervals, RABDZHINE_INTERVALS);
+    printf("number %u, %u brought in, %u dropped\n", (unsigned)done.number, (unsigned)done.inserted, (unsigned)done.removed);
+    for (int j = 0; j < 4; j++) {
+        printf("code %u, column %u, sum %u\n", (unsigned)answers[3 * j], (unsigned)answers[3 * j + 1], (unsigned)answers[3 * j + 2]);
+    }
+}
+
+int main(void) {
+    uint32_t value = 0;
+    uint8_t line[RABDZHINE_LINE + 1] = "                                    ";
+    if (label_plan() != 0) {
+        return 1;
+    }
+    run_calls();
+    printf("check %u\n", (unsigned)rabdzhine_check_network(5, 1, sizes, RABDZHINE_SIZES, vertices, RABDZHINE_VERTICES, lengths,
+                                                           RABDZHINE_LENGTHS));
+    printf("field %u", (unsigned)rabdzhine_read_field((const uint8_t *)PLAN, strlen(PLAN), 37, &value, 1));
+    printf(" %u\n", (unsigned)value);
+    printf("place 2: %u, place 4: %u, line [", (unsigned)rabdzhine_write_field(line, RABDZHINE_LINE, 2, 42),
+           (unsigned)rabdzhine_write_field(line, RABDZHINE_LINE, 4, 42));
+    printf("%s]\n", (const char *)line);
+    size_t written = rabdzhine_write_listing((const uint8_t *)PLAN, strlen(PLAN), listing, RABDZHINE_LISTING);
+    fwrite(listing, 1, written, stdout);
+    return 0;
+}

@@ -1,0 +1,139 @@
+/*
+ * Rabdzhine: track metres from district tables. The proved library for C.
+ *
+ * Build it with `rt staticlib host`; link target/staticlib/libhost.a (x86-64).
+ *
+ * Every entry accepts every input. What it cannot serve it refuses by a number and leaves or fills the lent buffers as said below.
+ * A buffer is lent as a pointer and the number of its elements, which must be readable (and writable unless const) for the call.
+ * A pointer is never null. A buffer that an entry writes overlaps no other of that call. Nothing is kept after a call, nothing is allocated.
+ *
+ * Words: a vertex is a gate, a piece is a district, to activate is to tell, to extract is to take, a parent is an owner,
+ * inserted is brought in, removed is dropped.
+ *
+ * Refusals:
+ *   0   accepted
+ *   1   a lent buffer is not of the stated size
+ *   2   the text is over 60,000 bytes
+ *   3   the text is not in the layout
+ *   4   n, p, m, rows, columns, number of calls or a field's place is out of bounds
+ *   5   a gate is outside 1 to n, or twice in a district
+ *   6   a length is above 99,999, or a diagonal is not 0
+ *   7   a block fails its check
+ *   8   the source is outside 1 to n
+ * and in the answer to one call of a session:
+ *   9   kind is not 1 or 2, or the told row is out of range
+ *   10  the row is already told
+ *   11  the value is above 25,499,745, or below the last sum handed out
+ *   50  a take has nothing to hand out (no refusal)
+ */
+#ifndef RABDZHINE_H
+#define RABDZHINE_H
+
+#include <stddef.h>
+#include <stdint.h>
+
+#ifdef __cplusplus
+extern "C" {
+#endif
+
+/* The sizes of the lent buffers, in elements. */
+#define RABDZHINE_SIZES 16       /* gates of each district */
+#define RABDZHINE_VERTICES 384   /* 24 gates for each district */
+#define RABDZHINE_LENGTHS 9216   /* 24 rows of 24 lengths for each district */
+#define RABDZHINE_LABELS 256     /* label of gate v at v - 1 */
+#define RABDZHINE_RECTANGLE 576  /* 24 rows of 24 lengths */
+#define RABDZHINE_CALLS 192      /* kind, row, value of each of 64 calls */
+#define RABDZHINE_ANSWERS 192    /* code, column, sum of each answer */
+#define RABDZHINE_INTERVALS 72   /* owner, first column, last column of each interval */
+#define RABDZHINE_LINE 36        /* bytes of a line: four fields of nine columns */
+#define RABDZHINE_LISTING 4901   /* bytes of the longest listing */
+
+/* The label of a gate that no run reaches, and of a place above n. */
+#define RABDZHINE_UNREACHED UINT32_C(4294967295)
+
+/* On a refusal `number` is its number and the counts are 0. */
+typedef struct {
+    uint32_t number;
+    uint32_t n;      /* gates */
+    uint32_t p;      /* districts */
+    uint32_t source;
+} rabdzhine_read_answer;
+
+typedef struct {
+    uint32_t number;
+    uint32_t reached;   /* gates with a label, the source too */
+    uint32_t extracted; /* takes */
+    uint32_t inserted;  /* intervals brought in */
+} rabdzhine_label_answer;
+
+typedef struct {
+    uint32_t number;
+    uint32_t inserted; /* intervals brought in */
+    uint32_t removed;  /* intervals dropped */
+} rabdzhine_session_answer;
+
+/*
+ * Reads the field of six bytes that starts at place `at` of the text, any place.
+ * Returns 0 with the number in value[0]; 1 if value_len is not 1, value left; 3 if no field stands there, value[0] then 0.
+ */
+uint32_t rabdzhine_read_field(const uint8_t *text, size_t text_len, size_t at, uint32_t *value, size_t value_len);
+
+/*
+ * Writes x into the nine columns of place 0 to 3 of a line of 36 bytes, right-justified, `-` if above 999,999,999. The other columns stay.
+ * Returns 0; 1 if line_len is not 36; 4 if place is above 3. A refusal leaves the line.
+ */
+uint32_t rabdzhine_write_field(uint8_t *line, size_t line_len, size_t place, uint32_t x);
+
+/*
+ * Reads a plan: 16 sizes, 384 gates, 9,216 lengths, unused places 0.
+ * Returns 0 with n, p and the source. 1 and 2 leave the buffers; 3 to 8 leave 0 in every place of them.
+ */
+rabdzhine_read_answer rabdzhine_read_text(const uint8_t *text, size_t text_len,
+                                          uint32_t *sizes, size_t sizes_len,
+                                          uint32_t *vertices, size_t vertices_len,
+                                          uint32_t *lengths, size_t lengths_len);
+
+/*
+ * Judges a network in buffers as the reader fills them. Places that its sizes do not use are not read.
+ * Returns 0, or 1, 4, 5, 6 or 7.
+ */
+uint32_t rabdzhine_check_network(uint32_t n, uint32_t p,
+                                 const uint32_t *sizes, size_t sizes_len,
+                                 const uint32_t *vertices, size_t vertices_len,
+                                 const uint32_t *lengths, size_t lengths_len);
+
+/*
+ * Labels every gate with the metres of the shortest run from the source. It judges the network again, then the source.
+ * Returns 0 with gates reached, takes and intervals brought in; labels then holds the label of gate v at v - 1, and
+ * RABDZHINE_UNREACHED for an unreached gate and for places above n. A refusal, 1 or 4 to 8, leaves labels.
+ */
+rabdzhine_label_answer rabdzhine_label_network(uint32_t n, uint32_t p,
+                                               const uint32_t *sizes, size_t sizes_len,
+                                               const uint32_t *vertices, size_t vertices_len,
+                                               const uint32_t *lengths, size_t lengths_len,
+                                               uint32_t source,
+                                               uint32_t *labels, size_t labels_len);
+
+/*
+ * Runs 0 to 64 calls on the heap of one block of 1 to 24 rows and columns, from a fresh heap. Row i of the rectangle starts at place 24 * i.
+ * A call is kind (1 tell, 2 take), row, value; its answer is code (0, 50 or 9 to 11), column, sum.
+ * Returns 0 with intervals brought in and dropped; answers then holds an answer for each call, unused places 0, and intervals the kept
+ * intervals by rising first column, unused places 255. A refusal, 1, 4, 6 or 7, leaves both.
+ */
+rabdzhine_session_answer rabdzhine_run_session(uint32_t rows, uint32_t cols, uint32_t count,
+                                               const uint32_t *lengths, size_t lengths_len,
+                                               const uint32_t *calls, size_t calls_len,
+                                               uint32_t *answers, size_t answers_len,
+                                               uint32_t *intervals, size_t intervals_len);
+
+/*
+ * Writes what the program `labels` writes for this text, the line of a refusal included, to the front of out.
+ * Returns how many bytes it wrote; the bytes after them stay. If out_len is not 4,901 it returns 0 and leaves out.
+ */
+size_t rabdzhine_write_listing(const uint8_t *text, size_t text_len, uint8_t *out, size_t out_len);
+
+#ifdef __cplusplus
+}
+#endif
+
+#endif

@@ -1,0 +1,179 @@
+//! Texts and networks that are turned away, each with the number of its cause where that is plain from the scope document.
+
+use crate::network::{Lent, Plan, ROOM};
+use crate::plans::Rng;
+
+/// Depot example P1.
+pub const DEPOT: [&str; 7] = [
+    "     5     1",
+    "     4     1     2     3     4",
+    "     0     3     7     5",
+    "     3     0     4     6",
+    "     7     4     0     2",
+    "     5     6     2     0",
+    "     1",
+];
+
+/// The lines as a text.
+pub fn text(lines: &[&str]) -> Vec<u8> {
+    lines.iter().flat_map(|line| [line.as_bytes(), b"\n"]).collect::<Vec<_>>().concat()
+}
+
+/// The depot's text with some lines replaced.
+pub fn depot_with(replaced: &[(usize, &str)]) -> Vec<u8> {
+    let mut lines = DEPOT;
+    for &(k, line) in replaced {
+        lines[k] = line;
+    }
+    text(&lines)
+}
+
+/// The depot's text with something after it.
+fn depot_and(tail: &[u8]) -> Vec<u8> {
+    [&text(&DEPOT), tail].concat()
+}
+
+/// Damaged lines of the depot's text: what is wrong, the lines replaced, the number.
+type Damage<'a> = (&'a str, &'a [(usize, &'a str)], u32);
+
+#[rustfmt::skip]
+const DAMAGES: &[Damage] = &[
+    ("tabs for blanks", &[(0, "\t\t\t\t\t5     1")], 3),
+    ("a blank after a digit", &[(0, "    5      1")], 3),
+    ("a leading zero", &[(0, "    05     1")], 3),
+    ("leading zeros", &[(0, "000005     1")], 3),
+    ("P12: two zeros", &[(2, "    00     3     7     5")], 3),
+    ("a plus", &[(0, "    +5     1")], 3),
+    ("a minus", &[(0, "    -5     1")], 3),
+    ("a dash for a length", &[(2, "     0     3     7     -")], 3),
+    ("a letter", &[(3, "     3     0     4     x")], 3),
+    ("a point", &[(3, "     3     0   4.0     6")], 3),
+    ("an empty field", &[(1, "     4     1     2     3      ")], 3),
+    ("an empty line", &[(3, "")], 3),
+    ("a column too many", &[(3, "      3     0     4     6")], 3),
+    ("a column too few", &[(3, "    3     0     4     6")], 3),
+    ("a blank at the end of a line", &[(3, "     3     0     4     6 ")], 3),
+    ("a carriage return", &[(3, "     3     0     4     6\r")], 3),
+    ("a field too many", &[(0, "     5     1     1")], 3),
+    ("a field too few", &[(5, "     5     6     2")], 3),
+    ("m says more gates than there are", &[(1, "     5     1     2     3     4")], 3),
+    ("m says fewer gates than there are", &[(1, "     3     1     2     3     4")], 3),
+    ("a row too few", &[(5, "     1")], 3),
+    ("a district too few", &[(0, "     5     2")], 3),
+    ("an empty question line", &[(6, "")], 3),
+    ("two fields in the question line", &[(6, "     1     2")], 3),
+    ("no gates", &[(0, "     0     1")], 4),
+    ("257 gates", &[(0, "   257     1")], 4),
+    ("no districts", &[(0, "     5     0")], 4),
+    ("17 districts", &[(0, "     5    17")], 4),
+    ("as many gates as six columns hold", &[(0, "999999     1")], 4),
+    ("a district of no gates", &[(1, "     0")], 4),
+    ("a district of 25 gates", &[(1, "    25     1     2     3     4")], 4),
+    ("gate 0", &[(1, "     4     1     2     3     0")], 5),
+    ("gate n + 1", &[(1, "     4     1     2     3     6")], 5),
+    ("a gate twice", &[(1, "     4     1     2     3     2")], 5),
+    ("a diagonal not 0", &[(4, "     7     4     1     2")], 6),
+    ("P12: a length of six digits", &[(2, "     0     3     7100000")], 6),
+    ("the longest length that six columns hold", &[(5, "999999     6     2     0")], 6),
+    ("P5: a block fails", &[(2, "     0     3     7    10")], 7),
+    ("source 0", &[(6, "     0")], 8),
+    ("source n + 1", &[(6, "     6")], 8),
+    // two causes at once
+    ("n is 0 and p no field", &[(0, "     0     x")], 3),
+    ("n is 0 and the line goes on", &[(0, "     0     1 ")], 3),
+    ("m is 25 and no gate follows", &[(1, "    25 x")], 4),
+    ("a gate twice and a later field bad", &[(1, "     4     2     2     3     x")], 3),
+    ("a gate twice and the first row bad", &[(1, "     4     2     2     3     4"), (2, "x")], 5),
+    ("a gate twice and a diagonal not 0", &[(1, "     4     2     2     3     4"), (2, "     1     3     7     5")], 5),
+    ("a length too long and a later field bad", &[(2, "     0100000     7     x")], 3),
+    ("a diagonal not 0 and the next row bad", &[(2, "     1     3     7     5"), (3, "x")], 6),
+    ("a block fails and a later diagonal is not 0", &[(2, "     0     3     7    10"), (5, "     5     6     2     9")], 6),
+    ("a block fails and the question line is bad", &[(2, "     0     3     7    10"), (6, "x")], 7),
+    ("a block fails and the source is 0", &[(2, "     0     3     7    10"), (6, "     0")], 7),
+];
+
+/// Damaged texts: what is wrong, the text, the number.
+pub fn texts() -> Vec<(String, Vec<u8>, u32)> {
+    let depot = text(&DEPOT);
+    let lines = DAMAGES.iter();
+    let mut all: Vec<(String, Vec<u8>, u32)> =
+        lines.map(|&(what, replaced, number)| (what.to_string(), depot_with(replaced), number)).collect();
+    let mut add = |what: &str, text: Vec<u8>, number: u32| all.push((what.to_string(), text, number));
+    for end in 0..depot.len() {
+        add(&format!("the first {end} bytes"), depot[..end].to_vec(), 3);
+    }
+    add("lines end with CR LF", DEPOT.join("\r\n").into_bytes(), 3);
+    add("lines end with CR", DEPOT.join("\r").into_bytes(), 3);
+    add("a blank in front", [b" ", &depot[..]].concat(), 3);
+    add("a byte 0 for a blank", [b"\0", &depot[1..]].concat(), 3);
+    add("a byte above 127", [b"\xff", &depot[1..]].concat(), 3);
+    for tail in ["\n", " ", "1", "     2\n", "\0", "\x1a"] {
+        add(&format!("{tail:?} after the question line"), depot_and(tail.as_bytes()), 3);
+    }
+    let bad_source = depot_with(&[(6, "     6")]);
+    add("source n + 1, and a byte after", [&bad_source, &b"\n"[..]].concat(), 8);
+    add("60,000 bytes", depot_and(&vec![b' '; 60_000 - depot.len()]), 3);
+    add("60,001 bytes", depot_and(&vec![b' '; 60_001 - depot.len()]), 2);
+    add("60,001 bytes of nothing", vec![0; 60_001], 2);
+    all
+}
+
+/// A text with a few bytes changed, put in or left out.
+pub fn scratched(text: &[u8], rng: &mut Rng) -> Vec<u8> {
+    let mut text = text.to_vec();
+    for _ in 0..rng.from(1, 2) {
+        let at = rng.below(text.len() as u32) as usize;
+        let byte = rng.pick(b"   0123456789-+\t\r\n\0x");
+        match rng.below(6) {
+            0 => text.insert(at, byte),
+            1 if text.len() > 1 => drop(text.remove(at)),
+            2 if text[at].is_ascii_digit() => text[at] = rng.pick(b"0123456789"),
+            _ => text[at] = byte,
+        }
+    }
+    text
+}
+
+/// A number that is wrong in many places.
+fn odd(old: u32, rng: &mut Rng) -> u32 {
+    let near = [old.wrapping_add(1), old.wrapping_sub(1)];
+    let fixed = [0, 1, 2, 17, 25, 257, 99_999, 100_000, u32::MAX];
+    rng.pick(&[&near[..], &fixed].concat())
+}
+
+/// A plan with one number changed, small enough to be a field. Perhaps it is still accepted.
+pub fn spoiled(plan: &Plan, rng: &mut Rng) -> Plan {
+    let mut plan = plan.clone();
+    let d = rng.below(plan.pieces.len() as u32) as usize;
+    let piece = &mut plan.pieces[d];
+    let m = piece.vertices.len() as u32;
+    let (i, j) = (rng.below(m) as usize, rng.below(m) as usize);
+    let place = match rng.below(10) {
+        0 => &mut plan.n,
+        1 => &mut plan.source,
+        2..=4 => &mut piece.vertices[i],
+        5 => &mut piece.lengths[i][i],
+        _ => &mut piece.lengths[i][j],
+    };
+    *place = odd(*place, rng).min(999_999);
+    plan
+}
+
+/// Lent buffers with one number changed, most often one that is read. Perhaps the network is still accepted.
+pub fn spoiled_lent(lent: &Lent, rng: &mut Rng) -> Lent {
+    let mut lent = lent.clone();
+    let d = rng.below(lent.p) as usize;
+    let m = lent.sizes[d];
+    let (i, j) = (rng.below(m) as usize, rng.below(m) as usize);
+    let place = match rng.below(12) {
+        0 => &mut lent.n,
+        1 => &mut lent.p,
+        2 => &mut lent.sizes[d],
+        3..=5 => &mut lent.vertices[ROOM * d + i],
+        6 => &mut lent.lengths[ROOM * (ROOM * d + i) + i],
+        7 => &mut lent.lengths[rng.below(9216) as usize],
+        _ => &mut lent.lengths[ROOM * (ROOM * d + i) + j],
+    };
+    *place = odd(*place, rng);
+    lent
+}

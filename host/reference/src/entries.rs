@@ -1,0 +1,130 @@
+//! What each entry of the library returns and leaves in its buffers, with the library's own arguments.
+
+use crate::model::{label_plan, Model};
+use crate::network::*;
+use crate::number_of;
+use crate::text;
+
+pub fn read_field(bytes: &[u8], at: usize, value: &mut [u32]) -> u32 {
+    if value.len() != 1 {
+        return 1;
+    }
+    let field = text::field_at(bytes, at);
+    value[0] = field.unwrap_or(0);
+    number_of(field)
+}
+
+pub fn write_field(line: &mut [u8], place: usize, x: u32) -> u32 {
+    if line.len() != 36 {
+        return 1;
+    }
+    if place > 3 {
+        return 4;
+    }
+    line[9 * place..9 * place + 9].copy_from_slice(text::nine_columns(x).as_bytes());
+    0
+}
+
+/// number, n, p, source
+pub fn read_text(bytes: &[u8], sizes: &mut [u32], vertices: &mut [u32], lengths: &mut [u32]) -> [u32; 4] {
+    if (sizes.len(), vertices.len(), lengths.len()) != (16, 384, 9216) {
+        return [1, 0, 0, 0];
+    }
+    let plan = match text::read(bytes) {
+        Err(2) => return [2, 0, 0, 0],
+        outcome => outcome,
+    };
+    sizes.fill(0);
+    vertices.fill(0);
+    lengths.fill(0);
+    match plan {
+        Err(number) => [number, 0, 0, 0],
+        Ok(plan) => {
+            let lent = Lent::of(&plan, 0);
+            sizes.copy_from_slice(&lent.sizes);
+            vertices.copy_from_slice(&lent.vertices);
+            lengths.copy_from_slice(&lent.lengths);
+            [0, lent.n, lent.p, plan.source]
+        }
+    }
+}
+
+pub fn check_network(lent: &Lent) -> u32 {
+    number_of(lent.judge_places().and_then(|_| lent.pieces()))
+}
+
+/// number, reached, extracted, inserted
+pub fn label_network(lent: &Lent, source: u32, labels: &mut [u32]) -> [u32; 4] {
+    let plan = || -> Result<Plan, u32> {
+        lent.judge_places()?;
+        if labels.len() != 256 {
+            return Err(1);
+        }
+        let pieces = lent.pieces()?;
+        judge_source(lent.n, source)?;
+        Ok(Plan { n: lent.n, pieces, source })
+    };
+    match plan() {
+        Err(number) => [number, 0, 0, 0],
+        Ok(plan) => {
+            let done = label_plan(&plan);
+            labels.copy_from_slice(&done.labels);
+            [0, done.reached, done.extracted, done.inserted]
+        }
+    }
+}
+
+fn judge_session(rows: u32, cols: u32, count: u32, lengths: &[u32]) -> Result<Model, u32> {
+    let bounds = 1..=24;
+    if !bounds.contains(&rows) || !bounds.contains(&cols) || count > 64 {
+        return Err(4);
+    }
+    let row = |i: usize| lengths[24 * i..24 * i + cols as usize].to_vec();
+    let rectangle: Vec<Vec<u32>> = (0..rows as usize).map(row).collect();
+    if rectangle.iter().flatten().any(|&l| l > MAX_LENGTH) {
+        return Err(6);
+    }
+    if !is_monge(&rectangle) {
+        return Err(7);
+    }
+    Ok(Model::new(rectangle))
+}
+
+/// number, inserted, removed
+pub fn run_session(
+    rows: u32,
+    cols: u32,
+    count: u32,
+    lengths: &[u32],
+    calls: &[u32],
+    answers: &mut [u32],
+    intervals: &mut [u32],
+) -> [u32; 3] {
+    let places = [lengths.len(), calls.len(), answers.len(), intervals.len()];
+    if places != [576, 192, 192, 72] {
+        return [1, 0, 0];
+    }
+    let mut model = match judge_session(rows, cols, count, lengths) {
+        Err(number) => return [number, 0, 0],
+        Ok(model) => model,
+    };
+    answers.fill(0);
+    for j in 0..count as usize {
+        let answer = model.call(calls[3 * j], calls[3 * j + 1], calls[3 * j + 2]);
+        answers[3 * j..3 * j + 3].copy_from_slice(&answer);
+    }
+    intervals.fill(255);
+    for (place, interval) in model.intervals().iter().enumerate() {
+        intervals[3 * place..3 * place + 3].copy_from_slice(interval);
+    }
+    [0, model.inserted, model.removed]
+}
+
+pub fn write_listing(bytes: &[u8], out: &mut [u8]) -> usize {
+    if out.len() != 4901 {
+        return 0;
+    }
+    let listing = text::listing(bytes);
+    out[..listing.len()].copy_from_slice(&listing);
+    listing.len()
+}

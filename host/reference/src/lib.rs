@@ -1,0 +1,27 @@
+//! The scope document's rules, written plainly in Rust from that document alone. The tests compare the proved library with them, and
+//! the benchmark measures it beside the two labellings here.
+//!
+//! - `network`: a plan, its blocks, the causes 4 to 8
+//! - `text`: the layout of a text, read and written
+//! - `model`: the plain book of a block, and the labelling over one for each block
+//! - `entries`: what each entry of the library returns and leaves in its buffers
+//! - `dijkstra`: the labels by the plainest algorithm
+//! - `fr_dijkstra`: the labelling by interval heaps, unproved
+//! - `plans`, `damage`: seeded plans, rectangles and texts to compare on
+//!
+//! Words: a vertex is a gate, a piece a district, to activate is to tell, to extract is to take, a parent is an owner, inserted is
+//! brought in, removed is dropped, the floor is the last sum handed out.
+
+pub mod damage;
+pub mod dijkstra;
+pub mod entries;
+pub mod fr_dijkstra;
+pub mod model;
+pub mod network;
+pub mod plans;
+pub mod text;
+
+/// 0, or the number of the cause that turned an input away.
+pub fn number_of<T>(outcome: Result<T, u32>) -> u32 {
+    outcome.err().unwrap_or(0)
+}

@@ -1,0 +1,163 @@
+//! The plain book of a block, and the labelling over a fresh one for each block.
+
+use crate::network::{blocks, rectangle, Plan};
+
+pub const MAX_LABEL: u32 = 25_499_745;
+pub const UNREACHED: u32 = u32::MAX;
+
+/// An interval: parent, first column, last column.
+pub type Interval = [u32; 3];
+
+/// The activated rows with their labels in order, the extracted columns, the floor; and what all calls inserted and removed.
+pub struct Model {
+    pub lengths: Vec<Vec<u32>>,
+    pub activated: Vec<(usize, u32)>,
+    pub extracted: Vec<usize>,
+    pub floor: u32,
+    pub inserted: u32,
+    pub removed: u32,
+}
+
+impl Model {
+    /// A fresh one, of a rectangle with at least one row and one column.
+    pub fn new(lengths: Vec<Vec<u32>>) -> Model {
+        Model { lengths, activated: Vec::new(), extracted: Vec::new(), floor: 0, inserted: 0, removed: 0 }
+    }
+
+    fn columns(&self) -> usize {
+        self.lengths[0].len()
+    }
+
+    /// The earliest activated row that reaches the least sum of a column not extracted, with that sum.
+    fn parent(&self, column: usize) -> Option<(usize, u32)> {
+        if self.extracted.contains(&column) {
+            return None;
+        }
+        let sums = self.activated.iter();
+        let sums = sums.map(|&(row, label)| (row, label + self.lengths[row][column]));
+        sums.min_by_key(|&(_, sum)| sum) // the first of equals
+    }
+
+    /// The lowest column of least sum, with that sum.
+    pub fn least(&self) -> Option<(usize, u32)> {
+        let sums = (0..self.columns()).filter_map(|c| Some((c, self.parent(c)?.1)));
+        sums.min_by_key(|&(_, sum)| sum)
+    }
+
+    /// The longest runs of neighbouring columns with one parent.
+    pub fn intervals(&self) -> Vec<Interval> {
+        let mut runs: Vec<Interval> = Vec::new();
+        for column in 0..self.columns() as u32 {
+            let Some((row, _)) = self.parent(column as usize) else {
+                continue;
+            };
+            match runs.last_mut() {
+                Some(run) if run[0] == row as u32 && run[2] + 1 == column => run[2] = column,
+                _ => runs.push([row as u32, column, column]),
+            }
+        }
+        runs
+    }
+
+    fn judge(&self, kind: u32, row: u32, label: u32) -> u32 {
+        if kind == 2 {
+            0
+        } else if kind != 1 || row as usize >= self.lengths.len() {
+            9
+        } else if self.activated.iter().any(|&(r, _)| r == row as usize) {
+            10
+        } else if label > MAX_LABEL || label < self.floor {
+            11
+        } else {
+            0
+        }
+    }
+
+    fn step(&mut self, kind: u32, row: u32, label: u32) -> [u32; 3] {
+        let number = self.judge(kind, row, label);
+        if number != 0 {
+            return [number, 0, 0];
+        }
+        if kind == 1 {
+            self.activated.push((row as usize, label));
+            return [0, 0, 0];
+        }
+        let Some((column, sum)) = self.least() else {
+            return [50, 0, 0];
+        };
+        self.extracted.push(column);
+        self.floor = sum;
+        [0, column as u32, sum]
+    }
+
+    /// One call, kind 1 or 2 or any other number: code, column, sum.
+    pub fn call(&mut self, kind: u32, row: u32, label: u32) -> [u32; 3] {
+        let before = self.intervals();
+        let answer = self.step(kind, row, label);
+        let after = self.intervals();
+        self.inserted += after.iter().filter(|v| !before.contains(v)).count() as u32;
+        self.removed += before.iter().filter(|v| !after.contains(v)).count() as u32;
+        answer
+    }
+}
+
+/// What a labelling finds: the label of vertex v at v - 1 of 256 places, and the counts.
+#[derive(Clone, Debug, PartialEq, Eq)]
+pub struct Labelling {
+    pub labels: Vec<u32>,
+    pub reached: u32,
+    pub extracted: u32,
+    pub inserted: u32,
+}
+
+/// A block of the network: the vertices of its rows and columns, and its model.
+struct Numbered {
+    rows: Vec<u32>,
+    columns: Vec<u32>,
+    model: Model,
+}
+
+fn numbered_blocks(plan: &Plan) -> Vec<Numbered> {
+    let mut all = Vec::new();
+    for piece in &plan.pieces {
+        for block in blocks(piece.vertices.len()) {
+            all.push(Numbered {
+                rows: block.rows.iter().map(|&i| piece.vertices[i]).collect(),
+                columns: block.columns.iter().map(|&j| piece.vertices[j]).collect(),
+                model: Model::new(rectangle(piece, &block)),
+            });
+        }
+    }
+    all
+}
+
+/// The labelling of a plan that is accepted.
+pub fn label_plan(plan: &Plan) -> Labelling {
+    let mut all = numbered_blocks(plan);
+    let mut labels = vec![UNREACHED; 256];
+    let (mut v, mut label, mut extracted) = (plan.source, 0, 0);
+    loop {
+        if labels[v as usize - 1] == UNREACHED {
+            labels[v as usize - 1] = label;
+            for b in &mut all {
+                if let Some(row) = b.rows.iter().position(|&x| x == v) {
+                    let answer = b.model.call(1, row as u32, label);
+                    assert_eq!(answer, [0, 0, 0], "an activation is refused");
+                }
+            }
+        }
+        let sums = all.iter_mut().filter_map(|b| Some((b.model.least()?.1, b)));
+        let Some((_, b)) = sums.min_by_key(|(sum, _)| *sum) else {
+            break;
+        };
+        let [_, column, sum] = b.model.call(2, 0, 0);
+        extracted += 1;
+        (v, label) = (b.columns[column as usize], sum);
+    }
+    Labelling {
+        reached: labels.iter().filter(|&&l| l != UNREACHED).count() as u32,
+        labels,
+        extracted,
+        inserted: all.iter().map(|b| b.model.inserted).sum(),
+    }
+}

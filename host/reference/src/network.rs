@@ -1,0 +1,180 @@
+//! A plan as its pieces, the blocks of a piece, the causes 4 to 8, and a network in lent buffers.
+
+use std::ops::Range;
+
+pub const MAX_LENGTH: u32 = 99_999;
+
+/// How many vertices a piece has room for in the lent buffers.
+pub const ROOM: usize = 24;
+
+/// A piece: its vertices in clockwise order, and the length from each to each.
+#[derive(Clone, Debug, PartialEq, Eq)]
+pub struct Piece {
+    pub vertices: Vec<u32>,
+    pub lengths: Vec<Vec<u32>>,
+}
+
+#[derive(Clone, Debug, PartialEq, Eq)]
+pub struct Plan {
+    pub n: u32,
+    pub pieces: Vec<Piece>,
+    pub source: u32,
+}
+
+/// A block by places of its piece: rows clockwise, columns anticlockwise.
+pub struct Block {
+    pub rows: Vec<usize>,
+    pub columns: Vec<usize>,
+}
+
+/// The blocks of a piece of `size` vertices, in their order.
+pub fn blocks(size: usize) -> Vec<Block> {
+    let mut all = Vec::new();
+    split(0..size, &mut all);
+    all
+}
+
+fn split(stretch: Range<usize>, all: &mut Vec<Block>) {
+    if stretch.len() < 2 {
+        return;
+    }
+    let middle = stretch.start + stretch.len() / 2;
+    let (a, b) = (stretch.start..middle, middle..stretch.end);
+    all.push(Block { rows: a.clone().collect(), columns: b.clone().rev().collect() });
+    all.push(Block { rows: b.clone().collect(), columns: a.clone().rev().collect() });
+    split(a, all);
+    split(b, all);
+}
+
+/// The lengths of a block of a piece, row by row.
+pub fn rectangle(piece: &Piece, block: &Block) -> Vec<Vec<u32>> {
+    let row = |&i: &usize| block.columns.iter().map(|&j| piece.lengths[i][j]).collect();
+    block.rows.iter().map(row).collect()
+}
+
+/// Whether neighbouring rows and columns obey the inequality.
+pub fn is_monge(e: &[Vec<u32>]) -> bool {
+    e.windows(2)
+        .all(|pair| (1..pair[0].len()).all(|k| pair[0][k - 1] + pair[1][k] <= pair[0][k] + pair[1][k - 1]))
+}
+
+// ---- the causes 4 to 8
+
+fn refuse_unless(holds: bool, number: u32) -> Result<(), u32> {
+    if holds {
+        Ok(())
+    } else {
+        Err(number)
+    }
+}
+
+pub fn judge_bounds(n: u32, p: u32) -> Result<(), u32> {
+    refuse_unless((1..=256).contains(&n) && (1..=16).contains(&p), 4)
+}
+
+pub fn judge_size(m: u32) -> Result<(), u32> {
+    refuse_unless((1..=24).contains(&m), 4)
+}
+
+pub fn judge_vertices(n: u32, vertices: &[u32]) -> Result<(), u32> {
+    let twice = (1..vertices.len()).any(|i| vertices[..i].contains(&vertices[i]));
+    let inside = vertices.iter().all(|v| (1..=n).contains(v));
+    refuse_unless(inside && !twice, 5)
+}
+
+/// The row of place `i`, which has its diagonal there.
+pub fn judge_row(i: usize, row: &[u32]) -> Result<(), u32> {
+    refuse_unless(row.iter().all(|&l| l <= MAX_LENGTH) && row[i] == 0, 6)
+}
+
+pub fn judge_blocks(piece: &Piece) -> Result<(), u32> {
+    let all = blocks(piece.vertices.len());
+    refuse_unless(all.iter().all(|b| is_monge(&rectangle(piece, b))), 7)
+}
+
+pub fn judge_source(n: u32, source: u32) -> Result<(), u32> {
+    refuse_unless((1..=n).contains(&source), 8)
+}
+
+// ---- lent buffers
+
+/// A network as it is lent: 16 sizes, 384 vertices, 9,216 lengths.
+#[derive(Clone, Debug, PartialEq, Eq)]
+pub struct Lent {
+    pub n: u32,
+    pub p: u32,
+    pub sizes: Vec<u32>,
+    pub vertices: Vec<u32>,
+    pub lengths: Vec<u32>,
+}
+
+impl Lent {
+    /// The buffers of a plan, every place that it does not use holding `unused`.
+    pub fn of(plan: &Plan, unused: u32) -> Lent {
+        let mut lent = Lent {
+            n: plan.n,
+            p: plan.pieces.len() as u32,
+            sizes: vec![unused; 16],
+            vertices: vec![unused; 16 * ROOM],
+            lengths: vec![unused; 16 * ROOM * ROOM],
+        };
+        for (d, piece) in plan.pieces.iter().enumerate() {
+            let m = piece.vertices.len();
+            lent.sizes[d] = m as u32;
+            lent.vertices[ROOM * d..ROOM * d + m].copy_from_slice(&piece.vertices);
+            for (i, row) in piece.lengths.iter().enumerate() {
+                let at = ROOM * (ROOM * d + i);
+                lent.lengths[at..at + m].copy_from_slice(row);
+            }
+        }
+        lent
+    }
+
+    pub fn judge_places(&self) -> Result<(), u32> {
+        let places = [self.sizes.len(), self.vertices.len(), self.lengths.len()];
+        refuse_unless(places == [16, 384, 9216], 1)
+    }
+
+    /// The pieces that the buffers hold, judged like a text: 4 to 7, piece by piece.
+    pub fn pieces(&self) -> Result<Vec<Piece>, u32> {
+        judge_bounds(self.n, self.p)?;
+        (0..self.p as usize).map(|d| self.piece(d)).collect()
+    }
+
+    fn piece(&self, d: usize) -> Result<Piece, u32> {
+        judge_size(self.sizes[d])?;
+        let m = self.sizes[d] as usize;
+        let vertices = self.vertices[ROOM * d..][..m].to_vec();
+        judge_vertices(self.n, &vertices)?;
+        let mut lengths = Vec::new();
+        for i in 0..m {
+            let row = self.lengths[ROOM * (ROOM * d + i)..][..m].to_vec();
+            judge_row(i, &row)?;
+            lengths.push(row);
+        }
+        let piece = Piece { vertices, lengths };
+        judge_blocks(&piece)?;
+        Ok(piece)
+    }
+}
+
+/// Where a vertex is not in a piece.
+pub const NO_PLACE: u8 = 255;
+
+/// The place of vertex v in each of the 16 pieces, at v - 1.
+pub fn places(lent: &Lent) -> [[u8; 16]; 256] {
+    let mut places = [[NO_PLACE; 16]; 256];
+    for d in 0..lent.p as usize {
+        for i in 0..lent.sizes[d] as usize {
+            places[lent.vertices[ROOM * d + i] as usize - 1][d] = i as u8;
+        }
+    }
+    places
+}
+
+/// The sum over the pieces of m times the logarithm of m, base 2 and rounded up.
+pub fn weight(plan: &Plan) -> u32 {
+    let logarithm = |m: u32| u32::BITS - (m - 1).leading_zeros();
+    let sizes = plan.pieces.iter().map(|q| q.vertices.len() as u32);
+    sizes.map(|m| m * logarithm(m)).sum()
+}

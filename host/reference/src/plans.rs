@@ -1,0 +1,302 @@
+//! Seeded plans, rectangles and sessions that the rules accept.
+//!
+//! Where the lengths come from: the shortest runs between vertices on the edge of a planar piece always pass the check, since two
+//! runs that cross can be swapped at a common vertex (`city`). And each ordered pair of places lies in one block only, so that a table
+//! may be put together from any rectangles that pass, each chosen for itself (`hostile`): these obey no triangle rule.
+
+use crate::model::{Model, MAX_LABEL};
+use crate::network::{blocks, Piece, Plan, MAX_LENGTH};
+
+/// SplitMix64.
+pub struct Rng(u64);
+
+impl Rng {
+    pub fn new(seed: u64) -> Rng {
+        Rng(seed)
+    }
+
+    fn next(&mut self) -> u64 {
+        self.0 = self.0.wrapping_add(0x9e37_79b9_7f4a_7c15);
+        let x = (self.0 ^ (self.0 >> 30)).wrapping_mul(0xbf58_476d_1ce4_e5b9);
+        let x = (x ^ (x >> 27)).wrapping_mul(0x94d0_49bb_1331_11eb);
+        x ^ (x >> 31)
+    }
+
+    /// A number below `bound`, which is not 0.
+    pub fn below(&mut self, bound: u32) -> u32 {
+        (self.next() % u64::from(bound)) as u32
+    }
+
+    pub fn from(&mut self, low: u32, high: u32) -> u32 {
+        low + self.below(high - low + 1)
+    }
+
+    pub fn pick<T: Copy>(&mut self, items: &[T]) -> T {
+        items[self.below(items.len() as u32) as usize]
+    }
+
+    /// `count` of the numbers 1 to n, in random order.
+    fn choose(&mut self, n: u32, count: usize) -> Vec<u32> {
+        let mut all: Vec<u32> = (1..=n).collect();
+        for i in 0..count {
+            all.swap(i, self.from(i as u32, n - 1) as usize);
+        }
+        all.truncate(count);
+        all
+    }
+}
+
+// ---- rectangles
+
+/// What a rectangle looks like.
+#[derive(Clone, Copy, Debug, PartialEq, Eq)]
+pub enum Kind {
+    /// all lengths 0
+    Zeros,
+    /// lengths that differ by little: ties everywhere
+    Ties,
+    /// the same below the largest length
+    Largest,
+    /// every row is best somewhere: many intervals
+    Diagonal,
+    /// row terms, column terms and random steps
+    Free,
+}
+
+pub const KINDS: [Kind; 5] = [Kind::Zeros, Kind::Ties, Kind::Largest, Kind::Diagonal, Kind::Free];
+
+/// A rectangle that passes the check.
+pub fn rectangle(rows: usize, columns: usize, kind: Kind, rng: &mut Rng) -> Vec<Vec<u32>> {
+    match kind {
+        Kind::Zeros => vec![vec![0; columns]; rows],
+        Kind::Ties => steps(rows, columns, 1, 1, 16, rng),
+        Kind::Largest => {
+            let small = steps(rows, columns, 1, 1, 16, rng);
+            let turned = |row: &Vec<u32>| row.iter().rev().map(|l| MAX_LENGTH - l).collect();
+            small.iter().map(turned).collect()
+        }
+        Kind::Diagonal => diagonal(rows, columns, rng),
+        Kind::Free => {
+            let step = (39_999 / (rows * columns)) as u32;
+            steps(rows, columns, 30_000, step, 2, rng)
+        }
+    }
+}
+
+/// Entry (i, k) is a term of row i, a term of column k, and the steps at the rows up to i and the columns after k. Terms are at most
+/// `term`; one place in `rare` has a step, at most `step`.
+fn steps(rows: usize, columns: usize, term: u32, step: u32, rare: u32, rng: &mut Rng) -> Vec<Vec<u32>> {
+    let row_terms: Vec<u32> = (0..rows).map(|_| rng.from(0, term)).collect();
+    let column_terms: Vec<u32> = (0..columns).map(|_| rng.from(0, term)).collect();
+    let mut sums = vec![0; columns];
+    let mut e = Vec::new();
+    for row_term in row_terms {
+        let mut run = 0;
+        for sum in sums.iter_mut().rev() {
+            *sum += run;
+            run += rng.from(0, step) * u32::from(rng.below(rare) == 0);
+        }
+        let entries = sums.iter().zip(&column_terms);
+        e.push(entries.map(|(sum, term)| row_term + term + sum).collect());
+    }
+    e
+}
+
+/// Entry (i, k) is the square of the distance of two points on a line; both kinds of points rise.
+fn diagonal(rows: usize, columns: usize, rng: &mut Rng) -> Vec<Vec<u32>> {
+    let mut points = |count: usize| -> Vec<u32> {
+        let mut points: Vec<u32> = (0..count).map(|_| rng.below(300)).collect();
+        points.sort_unstable();
+        points
+    };
+    let (tops, lefts) = (points(columns), points(rows));
+    let row = |x: &u32| tops.iter().map(|y| x.abs_diff(*y).pow(2)).collect();
+    lefts.iter().map(row).collect()
+}
+
+// ---- plans
+
+/// A table whose blocks are each of one of these kinds.
+fn table(m: usize, kinds: &[Kind], rng: &mut Rng) -> Vec<Vec<u32>> {
+    let mut lengths = vec![vec![0; m]; m];
+    for block in blocks(m) {
+        let kind = rng.pick(kinds);
+        let e = rectangle(block.rows.len(), block.columns.len(), kind, rng);
+        for (i, row) in block.rows.iter().zip(e) {
+            for (j, length) in block.columns.iter().zip(row) {
+                lengths[*i][*j] = length;
+            }
+        }
+    }
+    lengths
+}
+
+/// Pieces of these sizes, each at most n, with vertices drawn from 1 to n and blocks of these kinds.
+pub fn hostile(n: u32, sizes: &[usize], kinds: &[Kind], rng: &mut Rng) -> Plan {
+    let mut piece = |&m: &usize| Piece { vertices: rng.choose(n, m), lengths: table(m, kinds, rng) };
+    let pieces = sizes.iter().map(&mut piece).collect();
+    let source = rng.from(1, n);
+    Plan { n, pieces, source }
+}
+
+/// A town of streets on a grid: `down` times `across` square pieces, `side` streets along each, with 4 * side vertices on the edge.
+/// Lengths differ by direction, and streets inside a piece may be one-way.
+pub fn city(down: usize, across: usize, side: usize, rng: &mut Rng) -> Plan {
+    let (height, width) = (down * side + 1, across * side + 1);
+    let on_edge = |y: usize, x: usize| (y % side) * (x % side) == 0;
+    let crossings = (0..height).flat_map(|y| (0..width).map(move |x| (y, x)));
+    let edge: Vec<(usize, usize)> = crossings.filter(|&(y, x)| on_edge(y, x)).collect();
+    let n = edge.len() as u32;
+    let mut vertex = vec![vec![0; width]; height];
+    for (&(y, x), v) in edge.iter().zip(rng.choose(n, edge.len())) {
+        vertex[y][x] = v;
+    }
+    let mut pieces = Vec::new();
+    for top in (0..height - 1).step_by(side) {
+        for left in (0..width - 1).step_by(side) {
+            let around = clockwise(side);
+            pieces.push(Piece {
+                vertices: around.iter().map(|&(y, x)| vertex[top + y][left + x]).collect(),
+                lengths: planar_table(side, &around, rng),
+            });
+        }
+    }
+    let source = rng.from(1, n);
+    Plan { n, pieces, source }
+}
+
+/// The crossings on the edge of a square.
+fn clockwise(side: usize) -> Vec<(usize, usize)> {
+    let along = 0..side;
+    let top = along.clone().map(|k| (0, k));
+    let right = along.clone().map(|k| (k, side));
+    let bottom = along.clone().map(|k| (side, side - k));
+    let left = along.map(|k| (side - k, 0));
+    top.chain(right).chain(bottom).chain(left).collect()
+}
+
+/// The shortest runs between the crossings on the edge of a square with random streets.
+fn planar_table(side: usize, around: &[(usize, usize)], rng: &mut Rng) -> Vec<Vec<u32>> {
+    const CLOSED: u32 = 10_000_000;
+    let count = (side + 1) * (side + 1);
+    let mut run = vec![vec![CLOSED; count]; count];
+    for (a, b, inside) in streets(side) {
+        let one_way = if inside { rng.below(6) } else { 2 };
+        run[a][b] = if one_way == 0 { CLOSED } else { rng.from(40, 400) };
+        run[b][a] = if one_way == 1 { CLOSED } else { rng.from(40, 400) };
+    }
+    for (k, from) in run.iter_mut().enumerate() {
+        from[k] = 0;
+    }
+    for middle in 0..count {
+        for from in 0..count {
+            for to in 0..count {
+                run[from][to] = run[from][to].min(run[from][middle] + run[middle][to]);
+            }
+        }
+    }
+    let at = |&(y, x): &(usize, usize)| y * (side + 1) + x;
+    let row = |from: &(usize, usize)| around.iter().map(|to| run[at(from)][at(to)]).collect();
+    around.iter().map(row).collect()
+}
+
+/// The streets of a square, between neighbouring crossings that are numbered row by row, and whether each lies inside. Those on the
+/// edge join all of it in both directions.
+fn streets(side: usize) -> Vec<(usize, usize, bool)> {
+    let wide = side + 1;
+    let across =
+        (0..wide).flat_map(|y| (0..side).map(move |x| (y * wide + x, y * wide + x + 1, y % side != 0)));
+    let down =
+        (0..side).flat_map(|y| (0..wide).map(move |x| (y * wide + x, (y + 1) * wide + x, x % side != 0)));
+    across.chain(down).collect()
+}
+
+/// The same plan with some of each piece's vertices left out, and perhaps some vertices that are in no piece.
+fn thinned(mut plan: Plan, rng: &mut Rng) -> Plan {
+    for piece in &mut plan.pieces {
+        let m = piece.vertices.len();
+        let kept: Vec<usize> = (0..m).filter(|&i| i == 0 || rng.below(3) > 0).collect();
+        piece.vertices = kept.iter().map(|&i| piece.vertices[i]).collect();
+        let row = |&i: &usize| kept.iter().map(|&j| piece.lengths[i][j]).collect();
+        piece.lengths = kept.iter().map(row).collect();
+    }
+    plan.n = rng.from(plan.n, 256);
+    plan
+}
+
+/// Plans of all sorts, the same ones for the same seed.
+pub fn all(seed: u64) -> Vec<Plan> {
+    let mut rng = Rng::new(seed);
+    let rng = &mut rng;
+    let mut plans = Vec::new();
+    for (down, across, side) in [(1, 1, 1), (1, 3, 2), (2, 2, 3), (3, 2, 5), (4, 4, 4)] {
+        plans.push(city(down, across, side, rng));
+        let plan = city(down, across, side, rng);
+        plans.push(thinned(plan, rng));
+    }
+    plans.push(city(4, 4, 6, rng));
+    for kind in KINDS {
+        plans.push(hostile(256, &[24; 16], &[kind], rng));
+        plans.push(hostile(24, &[24, 23, 1, 2, 24], &[kind], rng));
+        plans.push(hostile(200, &[23, 1, 2], &[kind, Kind::Zeros], rng));
+    }
+    for _ in 0..120 {
+        let n = rng.pick(&[1, 2, 3, 5, 9, 24, 40, 256]);
+        let sizes = [1, 2, 3, 4, 7, 12, 23, 24].map(|m| m.min(n as usize));
+        let p = rng.from(1, 6);
+        let sizes: Vec<usize> = (0..p).map(|_| rng.pick(&sizes)).collect();
+        let kinds = [rng.pick(&KINDS), rng.pick(&KINDS)];
+        plans.push(hostile(n, &sizes, &kinds, rng));
+    }
+    plans
+}
+
+// ---- sessions
+
+/// A session: its rectangle in 24 rows of 24 and its calls, every place not used holding `unused`.
+#[derive(Clone, Debug)]
+pub struct Session {
+    pub rows: u32,
+    pub cols: u32,
+    pub count: u32,
+    pub lengths: Vec<u32>,
+    pub calls: Vec<u32>,
+}
+
+/// A session of one kind of rectangle. About one call in five is meant to be refused; the labels lie close to the floor.
+pub fn session(kind: Kind, unused: u32, rng: &mut Rng) -> Session {
+    let sides = [1, 2, 3, 5, 12, 23, 24];
+    let (rows, columns) = (rng.pick(&sides), rng.pick(&sides));
+    let count = rng.pick(&[0, 1, 10, 40, 63, 64, 64]);
+    let e = rectangle(rows, columns, kind, rng);
+    let mut lengths = vec![unused; 576];
+    for (i, row) in e.iter().enumerate() {
+        lengths[24 * i..24 * i + columns].copy_from_slice(row);
+    }
+    let mut model = Model::new(e);
+    let mut calls = vec![unused; 192];
+    for call in calls.chunks_mut(3).take(count) {
+        call.copy_from_slice(&random_call(rows as u32, model.floor, rng));
+        model.call(call[0], call[1], call[2]);
+    }
+    Session { rows: rows as u32, cols: columns as u32, count: count as u32, lengths, calls }
+}
+
+fn random_call(rows: u32, floor: u32, rng: &mut Rng) -> [u32; 3] {
+    let kind = rng.pick(&[1, 1, 1, 1, 1, 1, 1, 1, 2, 2, 2, 2, 2, 2, 0, 3, u32::MAX]);
+    let row = match rng.below(16) {
+        0 => rows,
+        1 => u32::MAX,
+        _ => rng.below(rows),
+    };
+    let label = match rng.below(24) {
+        0 => floor.saturating_sub(1),
+        1 => MAX_LABEL + 1,
+        2 => u32::MAX,
+        3 if rng.below(6) == 0 => MAX_LABEL,
+        4..=12 => floor,
+        13..=18 => floor + rng.below(3),
+        _ => floor + rng.below(20_000),
+    };
+    [kind, row, label]
+}

@@ -1,0 +1,99 @@
+//! The model against the scope document: the depot examples, and the causes that its table names.
+
+use reference::damage::{depot_with, text, texts, DEPOT};
+use reference::entries::*;
+use reference::model::{Model, UNREACHED};
+use reference::network::*;
+use reference::number_of;
+use reference::text::{listing, read};
+
+#[test]
+fn p1_and_p2() {
+    let expected = [
+        "        1        4        8        8",
+        "        1        0",
+        "        2        3",
+        "        3        7",
+        "        4        5",
+        "        5        -",
+    ];
+    assert_eq!(listing(&text(&DEPOT)), text(&expected));
+    let other_source = depot_with(&[(6, "     5")]);
+    let first = b"        5        1        0        0\n";
+    assert!(listing(&other_source).starts_with(first));
+}
+
+#[test]
+fn p3_to_p5() {
+    assert_eq!(read(&text(&DEPOT)).unwrap().pieces.len(), 1);
+    let with_first = |row: &str| number_of(read(&depot_with(&[(2, row)])));
+    assert_eq!(with_first("     0     3     7     9"), 0);
+    assert_eq!(with_first("     0     3     7    10"), 7);
+    assert!(is_monge(&[vec![9, 7], vec![6, 4]]));
+    assert!(!is_monge(&[vec![10, 7], vec![6, 4]]));
+}
+
+#[test]
+fn p6_to_p11() {
+    let block = || Model::new(vec![vec![5, 7], vec![6, 4]]);
+    assert_eq!(block().call(2, 0, 0), [50, 0, 0]);
+
+    let mut p8 = block();
+    assert_eq!(p8.call(1, 0, 0), [0, 0, 0]);
+    assert_eq!(p8.intervals(), [[0, 0, 1]]);
+    assert_eq!(p8.call(1, 1, 3), [0, 0, 0]);
+    assert_eq!(p8.intervals(), [[0, 0, 1]]);
+
+    let mut p9 = block();
+    p9.call(1, 0, 0);
+    p9.call(1, 1, 2);
+    assert_eq!(p9.intervals(), [[0, 0, 0], [1, 1, 1]]);
+    assert_eq!((p9.inserted, p9.removed), (3, 1));
+    assert_eq!(p9.call(2, 0, 0), [0, 0, 5]);
+
+    let mut p11 = block();
+    p11.call(1, 0, 0);
+    p11.call(2, 0, 0);
+    assert_eq!(p11.call(1, 1, 4), [11, 0, 0]);
+    assert_eq!(p11.call(1, 1, 5), [0, 0, 0]);
+    assert_eq!(p11.call(1, 1, 5), [10, 0, 0]);
+    assert_eq!(p11.call(1, 2, 5), [9, 0, 0]);
+    assert_eq!(p11.call(3, 0, 5), [9, 0, 0]);
+}
+
+#[test]
+fn damaged_texts_give_their_number() {
+    for (what, bytes, number) in texts() {
+        assert_eq!(number_of(read(&bytes)), number, "{what}");
+    }
+}
+
+#[test]
+fn a_network_is_judged_in_the_stated_order() {
+    let lent = Lent::of(&read(&text(&DEPOT)).unwrap(), 7);
+    assert_eq!(check_network(&lent), 0);
+    let check = |spoil: &dyn Fn(&mut Lent)| {
+        let mut spoiled = lent.clone();
+        spoil(&mut spoiled);
+        check_network(&spoiled)
+    };
+    assert_eq!(check(&|l| l.sizes.truncate(15)), 1);
+    assert_eq!(check(&|l| l.vertices.push(0)), 1);
+    assert_eq!(check(&|l| l.lengths.clear()), 1);
+    assert_eq!(check(&|l| l.n = 257), 4);
+    assert_eq!(check(&|l| l.p = 17), 4);
+    assert_eq!(check(&|l| l.p = 2), 5); // the unused 7s: a piece of 7 gates, the first one above n
+    assert_eq!(check(&|l| l.sizes[0] = 25), 4);
+    assert_eq!(check(&|l| l.vertices[1] = 1), 5);
+    assert_eq!(check(&|l| l.lengths[25] = 1), 6);
+    assert_eq!(check(&|l| l.lengths[1] = 100_000), 6);
+    assert_eq!(check(&|l| l.lengths[3] = 10), 7);
+    assert_eq!(check(&|l| l.lengths[4] = u32::MAX), 0); // not read
+    let mut labels = [7; 256];
+    assert_eq!(label_network(&lent, 0, &mut labels), [8, 0, 0, 0]);
+    assert_eq!(label_network(&lent, 6, &mut labels), [8, 0, 0, 0]);
+    assert_eq!(label_network(&lent, 1, &mut labels[..255]), [1, 0, 0, 0]);
+    assert_eq!(labels, [7; 256]);
+    assert_eq!(label_network(&lent, 1, &mut labels), [0, 4, 8, 8]);
+    assert_eq!(labels[..6], [0, 3, 7, 5, UNREACHED, UNREACHED]);
+}

@@ -1,0 +1,186 @@
+//! Track metres from district tables: the proved library, callable from Rust.
+//!
+//! Every function accepts every input. What it cannot serve it refuses by a number; a slice of another length than stated is refusal 1.
+//! `include/rabdzhine.h` says what each entry returns and leaves in each lent buffer, and lists the refusals.
+//!
+//! ```
+//! use rabdzhine::*;
+//!
+//! // two districts of two gates each, which share gate 2
+//! let text = b"     3     2
+//!      2     1     2
+//!      0   250
+//!    300     0
+//!      2     2     3
+//!      0   120
+//!    120     0
+//!      1
+//! ";
+//! let (mut sizes, mut vertices, mut lengths) = ([0; SIZES], [0; VERTICES], [0; LENGTHS]);
+//! let plan = read_text(text, &mut sizes, &mut vertices, &mut lengths);
+//! assert_eq!(plan, ReadAnswer { number: 0, n: 3, p: 2, source: 1 });
+//!
+//! let mut labels = [0; LABELS];
+//! let answer = label_network(plan.n, plan.p, &sizes, &vertices, &lengths, plan.source, &mut labels);
+//! assert_eq!((answer.number, answer.reached), (0, 3));
+//! assert_eq!(labels[..4], [0, 250, 370, UNREACHED]);
+//! ```
+#![no_std]
+
+mod raw;
+
+/// Places of the buffer of sizes: how many gates each district has.
+pub const SIZES: usize = 16;
+/// Places of the buffer of vertices: 24 gates for each district.
+pub const VERTICES: usize = 384;
+/// Places of the buffer of lengths: 24 rows of 24 for each district.
+pub const LENGTHS: usize = 9216;
+/// Places of the buffer of labels: gate v at v - 1.
+pub const LABELS: usize = 256;
+/// Places of a session's rectangle: 24 rows of 24.
+pub const RECTANGLE: usize = 576;
+/// Places of a session's calls: kind, row and value of each.
+pub const CALLS: usize = 192;
+/// Places of a session's answers: code, column and sum of each.
+pub const ANSWERS: usize = 192;
+/// Places of a session's intervals: owner, first and last column of each.
+pub const INTERVALS: usize = 72;
+/// Bytes of a line: four fields of nine columns.
+pub const LINE: usize = 36;
+/// Bytes of the longest listing.
+pub const LISTING: usize = 4901;
+/// The label of a gate that no run reaches, and of a place above n.
+pub const UNREACHED: u32 = u32::MAX;
+
+/// What the text reader returns. On a refusal `number` is its number and the rest is 0.
+#[repr(C)]
+#[derive(Clone, Copy, Debug, PartialEq, Eq)]
+pub struct ReadAnswer {
+    pub number: u32,
+    pub n: u32,
+    pub p: u32,
+    pub source: u32,
+}
+
+/// What the labelling returns: gates reached, takes, intervals brought in.
+#[repr(C)]
+#[derive(Clone, Copy, Debug, PartialEq, Eq)]
+pub struct LabelAnswer {
+    pub number: u32,
+    pub reached: u32,
+    pub extracted: u32,
+    pub inserted: u32,
+}
+
+/// What a session returns: intervals brought in and dropped.
+#[repr(C)]
+#[derive(Clone, Copy, Debug, PartialEq, Eq)]
+pub struct SessionAnswer {
+    pub number: u32,
+    pub inserted: u32,
+    pub removed: u32,
+}
+
+// SAFETY, of every call below: each pointer and length comes from one slice that is borrowed for the call, mutably where the entry
+// writes, so that no two overlap; the entries are proved to stay inside the slices and to return for every input.
+
+/// The field of six bytes at place `at` of the text goes to `value`, one place. Returns 0, 1 or 3.
+pub fn read_field(text: &[u8], at: usize, value: &mut [u32]) -> u32 {
+    unsafe { raw::rabdzhine_read_field(text.as_ptr(), text.len(), at, value.as_mut_ptr(), value.len()) }
+}
+
+/// Writes `x` into the nine columns of a place of the line. Returns 0, 1 or 4.
+pub fn write_field(line: &mut [u8], place: usize, x: u32) -> u32 {
+    unsafe { raw::rabdzhine_write_field(line.as_mut_ptr(), line.len(), place, x) }
+}
+
+/// Reads a plan into the three buffers.
+pub fn read_text(text: &[u8], sizes: &mut [u32], vertices: &mut [u32], lengths: &mut [u32]) -> ReadAnswer {
+    unsafe {
+        raw::rabdzhine_read_text(
+            text.as_ptr(),
+            text.len(),
+            sizes.as_mut_ptr(),
+            sizes.len(),
+            vertices.as_mut_ptr(),
+            vertices.len(),
+            lengths.as_mut_ptr(),
+            lengths.len(),
+        )
+    }
+}
+
+/// Judges a network. Returns 0, 1, 4, 5, 6 or 7.
+pub fn check_network(n: u32, p: u32, sizes: &[u32], vertices: &[u32], lengths: &[u32]) -> u32 {
+    unsafe {
+        raw::rabdzhine_check_network(
+            n,
+            p,
+            sizes.as_ptr(),
+            sizes.len(),
+            vertices.as_ptr(),
+            vertices.len(),
+            lengths.as_ptr(),
+            lengths.len(),
+        )
+    }
+}
+
+/// Labels the gates of a network with the metres from the source. A refusal leaves `labels`.
+pub fn label_network(
+    n: u32,
+    p: u32,
+    sizes: &[u32],
+    vertices: &[u32],
+    lengths: &[u32],
+    source: u32,
+    labels: &mut [u32],
+) -> LabelAnswer {
+    unsafe {
+        raw::rabdzhine_label_network(
+            n,
+            p,
+            sizes.as_ptr(),
+            sizes.len(),
+            vertices.as_ptr(),
+            vertices.len(),
+            lengths.as_ptr(),
+            lengths.len(),
+            source,
+            labels.as_mut_ptr(),
+            labels.len(),
+        )
+    }
+}
+
+/// Runs calls on the heap of one block. A refusal leaves `answers` and `intervals`.
+pub fn run_session(
+    rows: u32,
+    cols: u32,
+    count: u32,
+    lengths: &[u32],
+    calls: &[u32],
+    answers: &mut [u32],
+    intervals: &mut [u32],
+) -> SessionAnswer {
+    unsafe {
+        raw::rabdzhine_run_session(
+            rows,
+            cols,
+            count,
+            lengths.as_ptr(),
+            lengths.len(),
+            calls.as_ptr(),
+            calls.len(),
+            answers.as_mut_ptr(),
+            answers.len(),
+            intervals.as_mut_ptr(),
+            intervals.len(),
+        )
+    }
+}
+
+/// Writes what the program `labels` writes for this text. Returns how many bytes.
+pub fn write_listing(text: &[u8], out: &mut [u8]) -> usize {
+    unsafe { raw::rabdzhine_write_listing(text.as_ptr(), text.len(), out.as_mut_ptr(), out.len()) }
+}

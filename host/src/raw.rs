@@ -1,0 +1,67 @@
+//! The entries as the library exports them: a slice is a pointer and a length.
+
+use crate::{LabelAnswer, ReadAnswer, SessionAnswer};
+
+extern "C" {
+    pub fn rabdzhine_read_field(
+        text: *const u8,
+        text_len: usize,
+        at: usize,
+        value: *mut u32,
+        value_len: usize,
+    ) -> u32;
+
+    pub fn rabdzhine_write_field(line: *mut u8, line_len: usize, place: usize, x: u32) -> u32;
+
+    pub fn rabdzhine_read_text(
+        text: *const u8,
+        text_len: usize,
+        sizes: *mut u32,
+        sizes_len: usize,
+        vertices: *mut u32,
+        vertices_len: usize,
+        lengths: *mut u32,
+        lengths_len: usize,
+    ) -> ReadAnswer;
+
+    pub fn rabdzhine_check_network(
+        n: u32,
+        p: u32,
+        sizes: *const u32,
+        sizes_len: usize,
+        vertices: *const u32,
+        vertices_len: usize,
+        lengths: *const u32,
+        lengths_len: usize,
+    ) -> u32;
+
+    pub fn rabdzhine_label_network(
+        n: u32,
+        p: u32,
+        sizes: *const u32,
+        sizes_len: usize,
+        vertices: *const u32,
+        vertices_len: usize,
+        lengths: *const u32,
+        lengths_len: usize,
+        source: u32,
+        labels: *mut u32,
+        labels_len: usize,
+    ) -> LabelAnswer;
+
+    pub fn rabdzhine_run_session(
+        rows: u32,
+        cols: u32,
+        count: u32,
+        lengths: *const u32,
+        lengths_len: usize,
+        calls: *const u32,
+        calls_len: usize,
+        answers: *mut u32,
+        answers_len: usize,
+        intervals: *mut u32,
+        intervals_len: usize,
+    ) -> SessionAnswer;
+
+    pub fn rabdzhine_write_listing(text: *const u8, text_len: usize, out: *mut u8, out_len: usize) -> usize;
+}

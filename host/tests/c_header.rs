@@ -1,0 +1,47 @@
+//! The C header against the library: the example in C is compiled with it, linked and run. The C compiler is the one that links Rust.
+
+use std::path::Path;
+use std::process::Command;
+
+const EXPECTED: &str = "\
+5 gates, 1 districts, from gate 1
+number 0, 4 gates reached, 8 takes, 8 brought in
+gate 1: 0 m
+gate 2: 3 m
+gate 3: 7 m
+gate 4: 5 m
+gate 5: no run
+number 0, 3 brought in, 2 dropped
+code 0, column 0, sum 0
+code 0, column 0, sum 0
+code 0, column 0, sum 5
+code 10, column 0, sum 0
+check 0
+field 0 4
+place 2: 0, place 4: 4, line [                         42         ]
+        1        4        8        8
+        1        0
+        2        3
+        3        7
+        4        5
+        5        -
+";
+
+#[test]
+fn the_example_in_c() {
+    let folder = Path::new(env!("CARGO_MANIFEST_DIR"));
+    let program = Path::new(env!("CARGO_TARGET_TMPDIR")).join("depot");
+    let compiled = Command::new("cc")
+        .args(["-std=c99", "-pedantic", "-Wall", "-Wextra", "-Werror", "-I"])
+        .arg(folder.join("include"))
+        .arg(folder.join("examples/depot.c"))
+        .arg(folder.join("../target/staticlib/libhost.a"))
+        .arg("-o")
+        .arg(&program)
+        .status()
+        .expect("a C compiler");
+    assert!(compiled.success());
+    let run = Command::new(&program).output().expect("the program runs");
+    assert!(run.status.success());
+    assert_eq!(String::from_utf8_lossy(&run.stdout), EXPECTED);
+}

@@ -1,0 +1,93 @@
+//! The text reader and the listing against the model, on sound and on damaged texts.
+
+use rabdzhine::*;
+use reference::damage::{scratched, spoiled, text, texts, DEPOT};
+use reference::entries;
+use reference::plans::{all, Rng};
+use reference::text::write;
+
+/// Every buffer starts with 7 in it, so that what is left and what is written shows. Returns the number.
+fn compare(what: &str, bytes: &[u8], places: [usize; 3]) -> u32 {
+    let mut buffers = places.map(|size| vec![7; size]);
+    let mut expected = buffers.clone();
+    let [sizes, vertices, lengths] = &mut buffers;
+    let answer = read_text(bytes, sizes, vertices, lengths);
+    let [sizes, vertices, lengths] = &mut expected;
+    let [number, n, p, source] = entries::read_text(bytes, sizes, vertices, lengths);
+    assert_eq!(answer, ReadAnswer { number, n, p, source }, "{what}");
+    assert!(buffers == expected, "the buffers differ: {what}");
+    number
+}
+
+fn compare_listing(what: &str, bytes: &[u8], size: usize) {
+    let (mut out, mut expected) = (vec![b'.'; size], vec![b'.'; size]);
+    let written = write_listing(bytes, &mut out);
+    assert_eq!(written, entries::write_listing(bytes, &mut expected), "{what}");
+    assert!(out == expected, "the listings differ: {what}");
+}
+
+const PLACES: [usize; 3] = [SIZES, VERTICES, LENGTHS];
+
+#[test]
+fn the_depot_example() {
+    let mut out = [0; LISTING];
+    let written = write_listing(&text(&DEPOT), &mut out);
+    let expected = [
+        "        1        4        8        8",
+        "        1        0",
+        "        2        3",
+        "        3        7",
+        "        4        5",
+        "        5        -",
+    ];
+    assert_eq!(out[..written], text(&expected));
+}
+
+#[test]
+fn sound_texts() {
+    for (k, plan) in all(11).iter().enumerate() {
+        let bytes = write(plan);
+        assert_eq!(compare(&format!("plan {k}"), &bytes, PLACES), 0);
+        compare_listing(&format!("plan {k}"), &bytes, LISTING);
+    }
+}
+
+#[test]
+fn damaged_texts() {
+    for (what, bytes, number) in texts() {
+        assert_eq!(compare(&what, &bytes, PLACES), number, "{what}");
+        compare_listing(&what, &bytes, LISTING);
+    }
+}
+
+#[test]
+fn scratched_and_spoiled_texts() {
+    let mut rng = Rng::new(12);
+    let mut seen = [false; 9];
+    for plan in all(13) {
+        let bytes = write(&plan);
+        for _ in 0..20 {
+            seen[compare("scratched", &scratched(&bytes, &mut rng), PLACES) as usize] = true;
+            seen[compare("spoiled", &write(&spoiled(&plan, &mut rng)), PLACES) as usize] = true;
+        }
+    }
+    let met: Vec<usize> = (0..9).filter(|&number| seen[number]).collect();
+    assert_eq!(met, [0, 3, 4, 5, 6, 7, 8]);
+}
+
+#[test]
+fn buffers_of_another_size_are_left() {
+    let sound = text(&DEPOT);
+    for k in 0..3 {
+        for size in [0, PLACES[k] - 1, PLACES[k] + 1] {
+            let mut places = PLACES;
+            places[k] = size;
+            assert_eq!(compare("a buffer of another size", &sound, places), 1);
+            assert_eq!(compare("and a bad text", b"x", places), 1);
+            assert_eq!(compare("and a text too long", &[0; 60_001], places), 1);
+        }
+    }
+    for size in [0, 1, LISTING - 1, LISTING + 1] {
+        compare_listing("a listing of another size", &sound, size);
+    }
+}
