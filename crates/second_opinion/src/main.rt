@@ -1,34 +1,3 @@
-# 06 Second opinion: a draft
-
-The program that compares the labelling and the session with plain algorithms, over the proved crates `opinion` (plain algorithms) and `cases`
-(generated networks and sessions). It is not in the gate: eleven of its functions have no proof file yet (`are_same`, `are_unused`,
-`logarithm`, and those that call them). Its line in crates.txt is to be
-
-    second_opinion: cases opinion engine definitions io libc
-
-Run without proof (`rt try`) it wrote:
-
-```
-networks 4000
-networks accepted 3262
-networks refused 738
-networks that agree 4000
-vertices reached 115382
-networks within the bound 3262
-most intervals inserted 1361
-the bound there 6535
-largest share of a bound, in thousandths 273
-sessions 4000
-sessions accepted 3250
-sessions refused 750
-sessions that agree 4000
-intervals inserted 37959
-most intervals inserted 36
-```
-
-Its source, `crates/second_opinion/src/main.rt`:
-
-```rust
 // Compares the labelling with Dijkstra's algorithm, and sessions with a model that scans, on thousands of generated cases, and writes what was
 // found. Each case has a number, from which it is made again. A case that differs is named; none does in the file `stdout`.
 use cases::networks::Shape;
@@ -171,11 +140,10 @@ fn note_most(tally: &mut [u32], inserted: u32, most: u32) {
 }
 
 // Counts what an accepted labelling reached and inserted.
-fn count_labelling(tally: &mut [u32], given: LabelAnswer, p: u32, sizes: &[u32]) {
+fn count_labelling(tally: &mut [u32], given: LabelAnswer, most: u32) {
     if given.number != 0 {
         return;
     }
-    let most = bound(p, sizes);
     let within = if given.inserted <= most { 1 } else { 0 };
     add(tally, WITHIN, within);
     add(tally, TOTAL, given.reached);
@@ -248,6 +216,7 @@ fn compare_network(number: u32, tally: &mut [u32]) {
     let mut distances = [FILLER; 256];
     let mut seed = seed_of(number);
     let shape = make_network(&mut seed, &mut sizes, &mut vertices, &mut lengths);
+    let most = bound(shape.p, &sizes);
     let cause = judge(shape.n, shape.p, &sizes, &vertices, &lengths, shape.source);
     let counts = expect(
         shape,
@@ -263,7 +232,7 @@ fn compare_network(number: u32, tally: &mut [u32]) {
         && are_same(&labels, &distances)
         && are_same(&labels, &ruled);
     count_case(tally, b"network that differs ", number, cause, agrees);
-    count_labelling(tally, given, shape.p, &sizes);
+    count_labelling(tally, given, most);
 }
 
 fn compare_networks(tally: &mut [u32]) {
@@ -394,4 +363,3 @@ fn main() {
     compare_sessions(&mut sessions);
     write_sessions(&sessions);
 }
-```
