@@ -33,13 +33,33 @@ impl Network {
     pub const LABEL_PLACES: usize = 256;
 }
 
-// The numbers of the causes that turn a network away.
+// The layout of a text.
+pub struct Text;
+
+impl Text {
+    pub const MAX_BYTES: usize = 60000;
+
+    // the bytes of a field
+    pub const FIELD_BYTES: usize = 6;
+
+    // the bytes of a line of one field, with its byte 10
+    pub const LINE_OF_ONE: usize = 7;
+
+    // the bytes of a line of two fields, with its byte 10
+    pub const LINE_OF_TWO: usize = 13;
+}
+
+// The numbers of the causes that turn an input away.
 pub struct Cause;
 
 impl Cause {
     pub const NONE: u32 = 0;
 
     pub const BUFFER: u32 = 1;
+
+    pub const TEXT: u32 = 2;
+
+    pub const LAYOUT: u32 = 3;
 
     pub const BOUNDS: u32 = 4;
 

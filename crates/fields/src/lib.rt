@@ -7,10 +7,9 @@ ghost use Rattle.definitions.specs.Text.{fieldBytes, fieldOf, fieldAt};
 ghost use Rattle.definitions.specs.Entries.{columnBytes, nineColumns, writeField};
 ghost use Rattle.fields.specs.Reading.{Blanks, numeralOf, digitsAfter};
 ghost use Rattle.fields.specs.Writing.{columnOf, columns};
+use bounds::Cause;
+use bounds::Text;
 use definitions::Field;
-
-// The bytes of a field that is read.
-const FIELD_BYTES: usize = 6;
 
 // The bytes of a field that is written.
 const COLUMN_BYTES: usize = 9;
@@ -31,13 +30,13 @@ pub fn read_field(text: &[u8], at: usize) -> Field
     ensures { λ r. ⌜ r ≡ fieldAt (now (text .entry)) at ⌝ }
 {
     let n = text.len();
-    if n < FIELD_BYTES {
+    if n < Text::FIELD_BYTES {
         return Field::Malformed;
     }
-    if n - FIELD_BYTES < at {
+    if n - Text::FIELD_BYTES < at {
         return Field::Malformed;
     }
-    field_of(&text[at..at + FIELD_BYTES])
+    field_of(&text[at..at + Text::FIELD_BYTES])
 }
 
 // What the bytes of a field say: blanks, then a numeral.
@@ -109,15 +108,15 @@ pub fn write_field(line: &mut [u8], place: usize, x: u32) -> u32
     ensures written { λ _. ⌜ now (line .exit) ≡ (writeField (now (line .entry)) place x) .line ⌝ }
 {
     if line.len() != LINE_BYTES {
-        return 1;
+        return Cause::BUFFER;
     }
     if place > LAST_PLACE {
-        return 4;
+        return Cause::BOUNDS;
     }
     let start = COLUMN_BYTES * place;
     let end = start + COLUMN_BYTES;
     fill_number(&mut line[start..end], x);
-    0
+    Cause::NONE
 }
 
 // Fills nine bytes with x, or with `-` where it has more than nine digits.

@@ -1,31 +1,18 @@
 -- The model reads only the used places of its rectangle: rectangles that agree there give the same.
---   isMonge-agree
 --   parent-agree available-agree leastFrom-agree intervals-agree
 --   step-agree extend-agree trace-agree
 use mathlib.Core.Path.{_≡_, refl, ap, _∙_}
-use mathlib.Core.Bool.{Bool}
 use mathlib.Core.List.{List, [], _∷_}
-use Prim.Native.Nat.{ℕ, zero, suc, pred, _<_}
+use Prim.Native.Nat.{ℕ, _<_}
 use native.Mathlib.Omega.{arith}
-use Rattle.definitions.specs.Lists.{all}
-use Rattle.definitions.specs.Blocks.{Rectangle, corners, isMonge}
+use Rattle.definitions.specs.Blocks.{Rectangle}
 use Rattle.definitions.specs.Model.{least, Activation, Model, through, parent, available, leastFrom, intervals, Call, step, Trace, freshTrace, extend, traceFrom, trace}
 use Rattle.basics.specs.Lists.{Every}
 use Rattle.heap_laws.specs.Found.{leastFrom-same}
 use Rattle.heap_laws.specs.Sound.{Sound, fresh-sound, step-sound, extend-sound}
 use Rattle.heap_laws.specs.Runs.{runs-same}
 
-all-same : (p q : ℕ → Bool) (n : ℕ) → ((i : ℕ) → i < n → p i ≡ q i) → all p n ≡ all q n
-unfolding all
-all-same p q zero h = refl
-all-same p q (suc n) h = rw (all-same p q n (λ i l. h i (omega arith)), h n (omega arith))
-
 module _ (e e′ : Rectangle) (rows cols : ℕ) (same : (r c : ℕ) → r < rows → c < cols → e r c ≡ e′ r c) where
-  pub isMonge-agree : isMonge e rows cols ≡ isMonge e′ rows cols
-  unfolding isMonge corners
-  isMonge-agree = all-same _ _ (pred rows) (λ i l. all-same _ _ (pred cols) (λ k m.
-      rw (same i k (omega arith) (omega arith), same (suc i) (suc k) (omega arith) (omega arith), same i (suc k) (omega arith) (omega arith), same (suc i) k (omega arith) (omega arith))))
-
   pub parent-agree : (xs : List Activation) → Every (λ a. a .row < rows) xs → (c : ℕ) → c < cols → parent e xs c ≡ parent e′ xs c
   unfolding parent least through
   parent-agree [] w c l = refl

@@ -281,8 +281,8 @@ fn least_block(state: &[u32], count: u32) -> u32 {
     best
 }
 
-// One step, and what it inserts; NONE where no block has an interval.
-fn take_step(plan: &[u32], count: u32, state: &mut [u32]) -> u32 {
+// One step, from the block of least sum, and what it inserts; NONE where no block has an interval.
+fn extract_least(plan: &[u32], count: u32, state: &mut [u32]) -> u32 {
     let b = least_block(state, count);
     if b == NONE {
         return NONE;
@@ -298,10 +298,10 @@ fn take_step(plan: &[u32], count: u32, state: &mut [u32]) -> u32 {
 }
 
 // The steps until no block has an interval; the source is settled already, and the vertices are not counted.
-fn take_steps(plan: &[u32], count: u32, state: &mut [u32]) -> Labelled {
+fn extract_all(plan: &[u32], count: u32, state: &mut [u32]) -> Labelled {
     let mut inserted = 0;
     for extracted in 0..MAX_STEPS {
-        let more = take_step(plan, count, state);
+        let more = extract_least(plan, count, state);
         if more == NONE {
             return Labelled {
                 reached: 0,
@@ -354,7 +354,7 @@ pub fn label_by_rules(
     let count = list_blocks(p, sizes, &mut plan);
     clear(&mut state);
     let first = settle(&plan, count, &mut state, source, 0);
-    let steps = take_steps(&plan, count, &mut state);
+    let steps = extract_all(&plan, count, &mut state);
     let reached = copy_labels(&state, labels);
     Labelled {
         reached: reached,

@@ -12,6 +12,9 @@ ghost use Rattle.text.specs.Outcomes.{Came, Holds, Is, RowsLeft};
 ghost use Rattle.text.specs.Reading.{judged};
 ghost use Rattle.text.specs.Pieces.{Held, Room, TableRead, PieceLeft, PiecesLeft};
 ghost use Rattle.text.specs.Plans.{readQuestion, PlanRead, After};
+use bounds::Cause;
+use bounds::Network;
+use bounds::Text;
 use definitions::Field;
 use definitions::ReadAnswer;
 
@@ -25,13 +28,13 @@ fn read_fields(text: &[u8], at: usize, out: &mut [u32]) -> u32
     while i < out.len() {
         let field = fields::read_field(text, place);
         let Field::Number(x) = field else {
-            return 3;
+            return Cause::LAYOUT;
         };
         out[i] = x;
-        place += 6;
+        place += Text::FIELD_BYTES;
         i += 1;
     }
-    0
+    Cause::NONE
 }
 
 // A line's layout: its fields, then one byte 10.
@@ -41,17 +44,17 @@ fn read_line(text: &[u8], at: usize, out: &mut [u32]) -> u32
 {
     let k = out.len();
     let cause = read_fields(text, at, out);
-    if cause != 0 {
+    if cause != Cause::NONE {
         return cause;
     }
-    let end = at + 6 * k;
+    let end = at + Text::FIELD_BYTES * k;
     if end >= text.len() {
-        return 3;
+        return Cause::LAYOUT;
     }
-    if text[end] != 10 {
-        return 3;
+    if text[end] != b'\n' {
+        return Cause::LAYOUT;
     }
-    0
+    Cause::NONE
 }
 
 // A line of vertices, then their judgement.
@@ -60,7 +63,7 @@ fn read_vertices(text: &[u8], at: usize, n: u32, out: &mut [u32]) -> u32
     ensures { λ r. ⌜ Came (judged (judgeVertices n) (readLine (now (text .entry)) at (length (now (out .entry))))) r (Holds (now (out .exit))) ⌝ }
 {
     let cause = read_line(text, at, out);
-    if cause != 0 {
+    if cause != Cause::NONE {
         return cause;
     }
     checks::judge_vertices(n, out)
@@ -72,7 +75,7 @@ fn read_row(text: &[u8], at: usize, i: usize, out: &mut [u32]) -> u32
     ensures { λ r. ⌜ Came (judged (judgeRow i) (readLine (now (text .entry)) at (length (now (out .entry))))) r (Holds (now (out .exit))) ⌝ }
 {
     let cause = read_line(text, at, out);
-    if cause != 0 {
+    if cause != Cause::NONE {
         return cause;
     }
     checks::judge_row(i, out)
@@ -89,7 +92,10 @@ fn read_size(text: &[u8], at: usize) -> Size
 {
     let field = fields::read_field(text, at);
     let Field::Number(m) = field else {
-        return Size { number: 3, m: 0 };
+        return Size {
+            number: Cause::LAYOUT,
+            m: 0,
+        };
     };
     Size {
         number: checks::judge_size(m),
@@ -105,16 +111,16 @@ fn read_rows(text: &[u8], at: usize, m: usize, table: &mut [u32]) -> u32
     let mut i = 0;
     let mut place = at;
     while i < m {
-        let a = 24 * i;
+        let a = Network::ROW_PLACES * i;
         let e = a + m;
         let cause = read_row(text, place, i, &mut table[a..e]);
-        if cause != 0 {
+        if cause != Cause::NONE {
             return cause;
         }
-        place += 6 * m + 1;
+        place += Text::FIELD_BYTES * m + 1;
         i += 1;
     }
-    0
+    Cause::NONE
 }
 
 // A table's rows, then the check of its blocks.
@@ -123,7 +129,7 @@ fn read_table(text: &[u8], at: usize, m: usize, table: &mut [u32]) -> u32
     ensures { λ r. ⌜ TableRead (now (text .entry)) at m r (now (table .exit)) ⌝ }
 {
     let cause = read_rows(text, at, m, table);
-    if cause != 0 {
+    if cause != Cause::NONE {
         return cause;
     }
     checks::judge_blocks(m as u32, table)
@@ -150,24 +156,24 @@ fn read_piece(
 {
     let size = read_size(text, at);
     let number = size.number;
-    if number != 0 {
+    if number != Cause::NONE {
         return Progress { number, next: at };
     }
     let m = size.m as usize;
-    let a = 24 * d;
+    let a = Network::ROW_PLACES * d;
     let e = a + m;
-    let listed = read_vertices(text, at + 6, n, &mut vertices[a..e]);
-    if listed != 0 {
+    let listed = read_vertices(text, at + Text::FIELD_BYTES, n, &mut vertices[a..e]);
+    if listed != Cause::NONE {
         return Progress {
             number: listed,
             next: at,
         };
     }
-    let rows = at + 6 * m + 7;
-    let b = 576 * d;
-    let f = b + 576;
+    let rows = at + Text::FIELD_BYTES * m + Text::LINE_OF_ONE;
+    let b = Network::TABLE_PLACES * d;
+    let f = b + Network::TABLE_PLACES;
     let table = read_table(text, rows, m, &mut lengths[b..f]);
-    if table != 0 {
+    if table != Cause::NONE {
         return Progress {
             number: table,
             next: at,
@@ -175,8 +181,8 @@ fn read_piece(
     }
     sizes[d] = size.m;
     Progress {
-        number: 0,
-        next: rows + m * (6 * m + 1),
+        number: Cause::NONE,
+        next: rows + m * (Text::FIELD_BYTES * m + 1),
     }
 }
 
@@ -198,7 +204,7 @@ fn read_pieces(
     while d < p {
         let piece = read_piece(text, place, n, d, sizes, vertices, lengths);
         let number = piece.number;
-        if number != 0 {
+        if number != Cause::NONE {
             return Progress {
                 number,
                 next: place,
@@ -208,7 +214,7 @@ fn read_pieces(
         d += 1;
     }
     Progress {
-        number: 0,
+        number: Cause::NONE,
         next: place,
     }
 }
@@ -227,23 +233,29 @@ fn read_question(text: &[u8], at: usize, n: u32) -> Question
     let mut line = [0u32; 1];
     let cause = read_line(text, at, &mut line);
     let source = line[0];
-    if cause != 0 {
+    if cause != Cause::NONE {
         return Question {
             number: cause,
             source,
         };
     }
     let outside = checks::judge_source(n, source);
-    if outside != 0 {
+    if outside != Cause::NONE {
         return Question {
             number: outside,
             source,
         };
     }
-    if text.len() - at != 7 {
-        return Question { number: 3, source };
+    if text.len() - at != Text::LINE_OF_ONE {
+        return Question {
+            number: Cause::LAYOUT,
+            source,
+        };
     }
-    Question { number: 0, source }
+    Question {
+        number: Cause::NONE,
+        source,
+    }
 }
 
 fn refusal(number: u32) -> ReadAnswer
@@ -269,28 +281,36 @@ fn read_plan(
 {
     let mut line = [0u32; 2];
     let cause = read_line(text, 0, &mut line);
-    if cause != 0 {
+    if cause != Cause::NONE {
         return refusal(cause);
     }
     let n = line[0];
     let p = line[1];
     let bounds = checks::judge_bounds(n, p);
-    if bounds != 0 {
+    if bounds != Cause::NONE {
         return refusal(bounds);
     }
-    let pieces = read_pieces(text, 13, n, p as usize, sizes, vertices, lengths);
+    let pieces = read_pieces(
+        text,
+        Text::LINE_OF_TWO,
+        n,
+        p as usize,
+        sizes,
+        vertices,
+        lengths,
+    );
     let number = pieces.number;
-    if number != 0 {
+    if number != Cause::NONE {
         return refusal(number);
     }
     let next = pieces.next;
     let question = read_question(text, next, n);
     let asked = question.number;
-    if asked != 0 {
+    if asked != Cause::NONE {
         return refusal(asked);
     }
     ReadAnswer {
-        number: 0,
+        number: Cause::NONE,
         n,
         p,
         source: question.source,
@@ -318,18 +338,18 @@ pub fn read_text(
     ensures { λ r. ⌜ After r (now (sizes .exit)) (now (vertices .exit)) (now (lengths .exit)) ≡ reading (now (text .entry)) (now (sizes .entry)) (now (vertices .entry)) (now (lengths .entry)) ⌝ }
 {
     let buffers = checks::judge_buffers(sizes.len(), vertices.len(), lengths.len());
-    if buffers != 0 {
+    if buffers != Cause::NONE {
         return refusal(buffers);
     }
-    if text.len() > 60000 {
-        return refusal(2);
+    if text.len() > Text::MAX_BYTES {
+        return refusal(Cause::TEXT);
     }
     clear(sizes);
     clear(vertices);
     clear(lengths);
     let answer = read_plan(text, sizes, vertices, lengths);
     let number = answer.number;
-    if number == 0 {
+    if number == Cause::NONE {
         return answer;
     }
     clear(sizes);

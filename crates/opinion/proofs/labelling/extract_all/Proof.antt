@@ -1,10 +1,10 @@
--- `opinion::labelling::take_steps` is safe and ends: `4096 - extracted` falls at each turn.
+-- `opinion::labelling::extract_all` is safe and ends: `4096 - extracted` falls at each turn.
 use mathlib.Core.Path.{_≡_}
 use Prim.Native.Nat.{_-_}
 use borrow.Author.Needs.{needs}
 use lib.ListN.{length}
-use Rattle.opinion.proofs.labelling.take_steps.Statement.{statement}
-use Rattle.opinion.proofs.labelling.take_steps.Tie as tie
+use Rattle.opinion.proofs.labelling.extract_all.Statement.{statement}
+use Rattle.opinion.proofs.labelling.extract_all.Tie as tie
 
 abbrev Inv-loop : tie.InvT-loop
 Inv-loop plan count state₀ inserted₀ extracted₀ state inserted extracted = length state ≡ length state₀
@@ -12,7 +12,7 @@ Inv-loop plan count state₀ inserted₀ extracted₀ state inserted extracted =
 abbrev μ-loop : tie.MeasureT-loop
 μ-loop plan count state₀ inserted₀ extracted₀ state inserted extracted = 4096 - extracted
 
-pub take-steps-spec : {M : Type 1} → statement M
-take-steps-spec =
+pub extract-all-spec : {M : Type 1} → statement M
+extract-all-spec =
     tie.close (tie.spec Inv-loop μ-loop (search needs) (search needs) (search needs) (search needs) (search needs)
     (search needs) (search needs) (search needs) (search needs) (search needs))
