@@ -26,7 +26,7 @@ fn read_fields(text: &[u8], at: usize, out: &mut [u32]) -> u32
     let mut i = 0;
     let mut place = at;
     while i < out.len() {
-        let field = fields::read_field(text, place);
+        let field = reader::field_at(text, place);
         let Field::Number(x) = field else {
             return Cause::LAYOUT;
         };
@@ -90,7 +90,7 @@ struct Size {
 fn read_size(text: &[u8], at: usize) -> Size
     ensures { λ r. ⌜ Came (judged judgeSize (readField (now (text .entry)) at)) (r .number) (Is (r .m)) ⌝ }
 {
-    let field = fields::read_field(text, at);
+    let field = reader::field_at(text, at);
     let Field::Number(m) = field else {
         return Size {
             number: Cause::LAYOUT,

@@ -10,7 +10,7 @@ use Rattle.text.proofs.read_fields.Statement.{statement}
 use Rattle.text.proofs.read_fields.Tie as tie
 use Rattle.text.proofs.read_fields.Reads as reads
 use Rattle.text.proofs.read_fields.Lts as lts
-use Rattle.fields.proofs.read_field.Reads as read-field-reads
+use Rattle.reader.proofs.field_at.Reads as field-at-reads
 
 abbrev Inv-loop : tie.InvT-loop
 Inv-loop text at out₀ i₀ place₀ out i place =
@@ -27,8 +27,8 @@ loop-holds c =
     (search needs, search needs, search needs, rw z (sym (after-none (readFields (a .text .now) (a .at) (length (a .out .now))))))
 
 -- src/lib.rt:20:13
-read-field-requires : tie.Need-read-field-requires Inv-loop μ-loop
-read-field-requires c κs = search needs
+field-at-requires : tie.Need-field-at-requires Inv-loop μ-loop
+field-at-requires c κs = search needs
 
 -- src/lib.rt:21:27
 enum-known-field : tie.Need-enum-known-field Inv-loop μ-loop
@@ -47,7 +47,7 @@ returns : tie.Need-returns Inv-loop μ-loop
 returns c =
     let l = c .before .before .before .before .loop in
     let h = c .before .before .before .loop-test .taken in
-    fields-broken _ _ _ (l .i) (l .place) (l .out) (l .inv .3) (search needs) (sym (c .before .before .read-field .ensures) ∙ c .enum-told .given .1)
+    fields-broken _ _ _ (l .i) (l .place) (l .out) (l .inv .3) (search needs) (sym (c .before .before .field-at .ensures) ∙ c .enum-told .given .1)
 
 -- src/lib.rt:24:9
 mul-out : tie.Need-mul-out Inv-loop μ-loop
@@ -74,7 +74,7 @@ loop-again : tie.Need-loop-again Inv-loop μ-loop
 loop-again c =
     let l = c .before .before .before .before .before .loop in
     let a = c .before .before .before .before .before .before .before .before .args in
-    let f = sym (c .before .before .before .read-field .ensures) ∙ c .before .field .given .1 in
+    let f = sym (c .before .before .before .field-at .ensures) ∙ c .before .field .given .1 in
     let p = field-in (a .text .now) (l .place) (c .before .field .given .0 .0) f in
     (search needs, search needs, p, fields-turn (a .text .now) (a .at) (length (a .out .now)) (l .i) (l .place) (c .before .field .given .0 .0) (l .out) (omega arith) (l .inv .1) f (l .inv .3))
 
@@ -95,7 +95,7 @@ read-fields-spec =
     Inv-loop
     μ-loop
     loop-holds
-    read-field-requires
+    field-at-requires
     enum-known-field
     enum-told
     same-length

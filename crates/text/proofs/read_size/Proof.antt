@@ -11,11 +11,11 @@ use Rattle.text.proofs.read_size.Tie as tie
 use Rattle.text.proofs.read_size.Reads as reads
 use Rattle.text.proofs.read_size.Lts as lts
 use Rattle.checks.proofs.judge_size.Reads as judge-size-reads
-use Rattle.fields.proofs.read_field.Reads as read-field-reads
+use Rattle.reader.proofs.field_at.Reads as field-at-reads
 
 -- src/lib.rt:85:9
-read-field-requires : tie.Need-read-field-requires
-read-field-requires c κs = search needs
+field-at-requires : tie.Need-field-at-requires
+field-at-requires c κs = search needs
 
 -- src/lib.rt:86:23
 enum-known-field : tie.Need-enum-known-field
@@ -28,7 +28,7 @@ enum-told c = search needs
 -- src/lib.rt:87:9
 returns : tie.Need-returns
 returns c =
-    let e = field-stop _ _ (sym (c .before .before .read-field .ensures) ∙ c .enum-told .given .1) in
+    let e = field-stop _ _ (sym (c .before .before .field-at .ensures) ∙ c .enum-told .given .1) in
     let three : _≢_ {A = ℕ} 3 0 = λ w. omega arith in
     came-out _ _ 3 three (judged-stop judgeSize _ 3 e)
 
@@ -39,10 +39,10 @@ judge-size-requires c κs = search needs
 -- src/lib.rt:82:1
 returns-2 : tie.Need-returns-2
 returns-2 c =
-    let e = field-go _ _ _ (sym (c .before .before .before .before .read-field .ensures) ∙ c .before .before .field .given .1) in
+    let e = field-go _ _ _ (sym (c .before .before .before .before .field-at .ensures) ∙ c .before .before .field .given .1) in
     came-judged judgeSize _ _ _ _ e (c .judge-size .ensures) refl
 
 pub read-size-spec : {M : Type 1} → statement M
 read-size-spec =
     tie.close
-    (tie.spec read-field-requires enum-known-field enum-told returns judge-size-requires returns-2)
+    (tie.spec field-at-requires enum-known-field enum-told returns judge-size-requires returns-2)
