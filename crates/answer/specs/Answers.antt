@@ -16,13 +16,13 @@ use Rattle.definitions.specs.declared.ReadAnswer.{ReadAnswer}
 use Rattle.definitions.specs.declared.LabelAnswer.{LabelAnswer}
 use Rattle.definitions.specs.Limits.{maxVertices, sizePlaces, vertexPlaces, lengthPlaces, labelPlaces}
 use Rattle.definitions.specs.Lists.{upFrom, firstCause}
-use Rattle.definitions.specs.Network.{blocks}
-use Rattle.definitions.specs.Labelling.{State, labelOf, labelling, metresOf, labels}
+use Rattle.definitions.specs.Blocks.{blocks}
+use Rattle.definitions.specs.Labelling.{State, labelOf, labelling, heldLabel, labels}
 use Rattle.definitions.specs.Text.{Read, refused, value, require, Plan, readPlan, judgeLength, readText, sizesOf, verticesOf, lengthsOf}
-use Rattle.definitions.specs.Entries.{AfterRead, AfterLabel, hasPlaces, judgeReadBuffers, readRefusal, afterRead, reading, judgeLabelling, labelAnswer, labelNetwork, listingLine, refusalLine, stateListing, planListing, listing}
+use Rattle.definitions.specs.Entries.{AfterRead, AfterLabel, hasPlaces, judgeBuffers, readRefusal, afterRead, reading, judgeLabelling, labelAnswer, labelNetwork, listingLine, refusalLine, stateListing, planListing, listing}
 use Rattle.basics.specs.Tests.{Truth, holds, fails, truth}
 use Rattle.basics.specs.Lists.{Every, every-imp}
-use Rattle.labelling_laws.specs.Acceptance.{vertices-few, pieces-few}
+use Rattle.basics.specs.Causes.{bounds-in}
 use Rattle.labelling_laws.specs.Loop.{labels-read}
 use Rattle.text.specs.Reading.{bind-value, require-value}
 use Rattle.text.specs.Pieces.{Shaped, Room, sizes-long, vertices-full, lengths-full}
@@ -53,11 +53,11 @@ text-value text plan e =
     (require-value (judgeLength text) (a .0) (a .1), a .2)
 
 -- buffers of the stated sizes
-pub sized : (s v l : List ℕ) → length s ≡ sizePlaces → length v ≡ vertexPlaces → length l ≡ lengthPlaces → judgeReadBuffers s v l ≡ 0
-unfolding judgeReadBuffers hasPlaces
-sized s v l e f g = rw (eq-eqb _ _ e, eq-eqb _ _ f, eq-eqb _ _ g)
+pub sized : judgeBuffers sizePlaces vertexPlaces lengthPlaces ≡ 0
+unfolding judgeBuffers
+sized = refl
 
-module _ (text s v l : List ℕ) (fit : judgeReadBuffers s v l ≡ 0) where
+module _ (text s v l : List ℕ) (fit : judgeBuffers (length s) (length v) (length l) ≡ 0) where
   reading-value : (plan : Plan) → readText text ≡ value plan → reading text s v l ≡ afterRead (value plan)
   unfolding reading firstCause
   reading-value plan e = let a = text-value text plan e in rw (fit, a .0, a .1)
@@ -79,7 +79,7 @@ pub record Understood (text : List ℕ) (answer : ReadAnswer) (sizes vertices le
   pub vertices-hold : vertices ≡ verticesOf (plan .pieces)
   pub lengths-hold : lengths ≡ lengthsOf (plan .pieces)
 
-module _ (text s v l : List ℕ) (fit : judgeReadBuffers s v l ≡ 0) (answer : ReadAnswer) (s′ v′ l′ : List ℕ) (left : AfterReading answer s′ v′ l′ ≡ reading text s v l) where
+module _ (text s v l : List ℕ) (answer : ReadAnswer) (s′ v′ l′ : List ℕ) (left : AfterReading answer s′ v′ l′ ≡ reading text s v l) (fit : judgeBuffers (length s) (length v) (length l) ≡ 0) where
   answer-refused : (k : ℕ) → readText text ≡ refused k → answer .number ≡ k
   answer-refused k e = ap (λ (a : AfterRead). a .answer .number) left ∙ ap (λ (a : ReadAnswer). a .number) (reading-refused text s v l fit k e)
 
@@ -126,9 +126,9 @@ module _ (plan : Plan) (sound : Sound plan) where
 
   lent-accepted : (buffer : List ℕ) → length buffer ≡ labelPlaces
       → judgeLabelling (plan .n) (length (plan .pieces)) (sizesOf (plan .pieces)) (verticesOf (plan .pieces)) (lengthsOf (plan .pieces)) (plan .source) buffer ≡ 0
-  unfolding judgeLabelling hasPlaces firstCause
+  unfolding judgeLabelling judgeBuffers hasPlaces firstCause
   lent-accepted buffer h =
-      let few = pieces-few (plan .n) (length (plan .pieces)) (sound .bounds) in
+      let few = bounds-in (plan .n) (length (plan .pieces)) (sound .bounds) .1 in
       rw (
         eq-eqb _ _ (sizes-long _ _ _ _ room few),
         eq-eqb _ _ (vertices-full _ _ _ _ room few),
@@ -149,7 +149,7 @@ module _ (plan : Plan) (sound : Sound plan) where
   lent-labelled buffer h = rw (lent-accepted buffer h, pieces-back (plan .pieces) shaped)
 
 -- the lines by the buffer's places are those by the settled vertices
-lines-same : (st : State) (v k : ℕ) → 1 ≤ v → v + k ≤ suc labelPlaces → vertexLines (labels st) v k ≡ flatMap (λ w. listingLine (w ∷ metresOf (labelOf w (st .settled)) ∷ [])) (upFrom v k)
+lines-same : (st : State) (v k : ℕ) → 1 ≤ v → v + k ≤ suc labelPlaces → vertexLines (labels st) v k ≡ flatMap (λ w. listingLine (w ∷ heldLabel (labelOf w (st .settled)) ∷ [])) (upFrom v k)
 unfolding vertexLines flatMap upFrom
 lines-same st v zero low high = refl
 lines-same st v (suc k) low high = rw (labels-read st v low (omega arith), lines-same st (suc v) k (omega arith) (omega arith))
@@ -164,7 +164,7 @@ module _ (text s v l : List ℕ) (answer : ReadAnswer) (u : Understood text answ
   sound = plan-accepted text (u .plan) (text-value text (u .plan) (u .said) .1)
 
   pub vertices-fit : answer .n ≤ maxVertices
-  vertices-fit = rw (u .answered) (vertices-few (u .plan .n) (length (u .plan .pieces)) (sound .bounds))
+  vertices-fit = rw (u .answered) (bounds-in (u .plan .n) (length (u .plan .pieces)) (sound .bounds) .0)
 
   -- the counts, then a line for each vertex with the label at its place
   pub labelled : (labelAns : LabelAnswer) (buffer left : List ℕ) → length buffer ≡ labelPlaces
@@ -176,7 +176,7 @@ module _ (text s v l : List ℕ) (answer : ReadAnswer) (u : Understood text answ
       let done : _≡_ {A = AfterLabel} (record { answer = labelAns; labels = left }) (record { answer = labelAnswer st; labels = labels st }) = rw (u .answered, u .sizes-hold, u .vertices-hold, u .lengths-hold, lent-labelled (u .plan) sound buffer h) at e in
       let a : labelAns ≡ labelAnswer st = ap (λ (x : AfterLabel). x .answer) done in
       let b : left ≡ labels st = ap (λ (x : AfterLabel). x .labels) done in
-      rw (u .said, u .answered, a, b) (sym (state-listing (u .plan .n) (u .plan .source) st (vertices-few (u .plan .n) (length (u .plan .pieces)) (sound .bounds))))
+      rw (u .said, u .answered, a, b) (sym (state-listing (u .plan .n) (u .plan .source) st (bounds-in (u .plan .n) (length (u .plan .pieces)) (sound .bounds) .0)))
 
 -- ---- the output
 
@@ -189,7 +189,7 @@ listing-fits text = go (seen (readText text))
         let low : Low {A = Plan} (refused k) = rw e at (low-text text) in
         rw (e, refusal-digit k (low .1)) (omega arith)
     go (read plan e) =
-        let few = vertices-few (plan .n) (length (plan .pieces)) (plan-accepted text plan (text-value text plan e .1) .bounds) in
+        let few = bounds-in (plan .n) (length (plan .pieces)) (plan-accepted text plan (text-value text plan e .1) .bounds) .0 in
         let st = labelling (blocks (plan .pieces)) (plan .source) in
         rw (e, state-listing (plan .n) (plan .source) st few, length-append, length-line, length-vertices) (omega arith)
 

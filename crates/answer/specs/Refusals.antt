@@ -15,7 +15,7 @@ use Rattle.definitions.specs.declared.Field.{Field}
 use Rattle.definitions.specs.declared.Field.the-variants.{Number, Malformed}
 use Rattle.definitions.specs.Limits.{maxVertices, maxPieces, maxSize, maxLength, maxText}
 use Rattle.definitions.specs.Lists.{every, different, total, within}
-use Rattle.definitions.specs.Network.{blocksOf, passes}
+use Rattle.definitions.specs.Blocks.{blocksOf, passes}
 use Rattle.definitions.specs.Judgement.{judgeBounds, judgeSize, judgeVertices, judgeRow, judgeBlocks, judgeSource}
 use Rattle.definitions.specs.Text.{blank, lineEnd, fieldBytes, fieldAt, fieldCause, Read, refused, value, _>>=_, require, readField, readFields, judgeLineEnd, readLine, lineBytes, readRows, readPiece, pieceBytes, readPieces, judgeEnd, readBody, readPlan, judgeLength, readText}
 use Rattle.definitions.specs.Entries.{digitsOf, decimal, refusalLine}

@@ -3,3 +3,4 @@ pub mod Tests
 pub mod Lists
 pub mod Buffers
 pub mod Sequences
+pub mod Causes

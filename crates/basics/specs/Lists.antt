@@ -2,7 +2,7 @@
 --   all-at all-is every-is        a computed test gives a fact of each number, of each member
 --   Every Any                     a property of all members, of some member
 --   total-..                      sums
---   Different count counted at-most   different numbers, and how many there are below a bound
+--   Different counted at-most         different numbers, and how many there are below a bound
 --   padded-..                     a buffer filled from its front
 use mathlib.Core.Path.{_≡_, refl, sym, ap, _∙_, subst}
 use mathlib.Core.Bool.{Bool, true, false, cond, not, _&&_, _||_, or-assoc, or-false}
@@ -14,7 +14,7 @@ use native.Mathlib.Omega.{arith}
 use borrow.Author.Tests.{eq-eqb, ne-eqb, eqb-true, not-true}
 use lib.Dec.{eqb, ltb, leb}
 use lib.ListN.{getD, length, set, replicate, length-append, length-replicate}
-use Rattle.definitions.specs.Lists.{all, every, mem, different, total, padded}
+use Rattle.definitions.specs.Lists.{all, count, every, mem, different, total, padded}
 use Rattle.basics.specs.Tests.{clash, and-left, and-right, and-both, or-left, or-right, below-suc, Order, less, more, order, Truth, holds, fails, truth, Equal, equal, differ, equality}
 
 -- ---- a computed test
@@ -175,11 +175,6 @@ different-snoc (y ∷ xs) x d h =
     let b : mem x xs ≡ false = or-right (eqb x y) (mem x xs) h in
     let q : y ≡ x → ⊥ = λ z. clash (eq-eqb x y (sym z)) a in
     (rw (mem-snoc y xs x, d .0, ne-eqb y x q), different-snoc xs x (d .1) b)
-
--- how many numbers below n pass
-unfoldable pub count : (ℕ → Bool) → ℕ → ℕ
-count p zero = 0
-count p (suc n) = cond (p n) 1 0 + count p n
 
 count-le : (p : ℕ → Bool) (n : ℕ) → count p n ≤ n
 unfolding count

@@ -13,8 +13,8 @@ use lib.ListN.{getD, length, take, drop}
 use lib.Seq.{take-take, drop-drop}
 use Rattle.definitions.specs.Limits.{maxSize, rowPlaces, tablePlaces}
 use Rattle.definitions.specs.Lists.{every, upFrom, firstCause}
-use Rattle.definitions.specs.Blocks.{Split, splits, splitsOf, Window, windowsOf, rowsOf, columnsOf, isMonge}
-use Rattle.definitions.specs.Network.{Piece, entry, sizeOf, blockOf, blocksOf, passes}
+use Rattle.definitions.specs.Network.{Piece, entry, sizeOf}
+use Rattle.definitions.specs.Blocks.{Split, splits, splitsOf, Window, windowsOf, rowsOf, columnsOf, isMonge, blockOf, blocksOf, passes}
 use Rattle.definitions.specs.Judgement.{judgeSize, judgeBlocks, judgePiece, pieceAt}
 use Rattle.definitions.specs.Entries.{hasPlaces}
 use Rattle.basics.specs.Tests.{Order, less, more, order, Equal, equal, differ, equality}
@@ -25,8 +25,7 @@ use Rattle.monge.specs.Matrix.{at, mongeIn, reversed, rowsIn}
 use Rattle.basics.specs.Sequences.{length-upFrom}
 use Rattle.monge.specs.Copies.{block-rows, block-cols, block-passes}
 use Rattle.checks.specs.Lent.{pieceIn, tableIn, judgeTable}
-use Rattle.checks.specs.Causes.{passed, last}
-use Rattle.checks.specs.Accepted.{size-in}
+use Rattle.basics.specs.Causes.{passed, last, size-in}
 
 -- ---- splits
 

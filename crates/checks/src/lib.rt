@@ -7,9 +7,10 @@ ghost use Rattle.definitions.specs.Limits.{maxPieces, maxSize, sizePlaces, vert
 ghost use Rattle.definitions.specs.Lists.{every, mem, within};
 ghost use Rattle.definitions.specs.Blocks.{allSplits, windows, windowsOf};
 ghost use Rattle.definitions.specs.Judgement.{judgeBounds, judgeSize, judgeVertices, judgeRow, judgeRows, judgeFrom, judgeSource};
+ghost use Rattle.definitions.specs.Entries.{judgeBuffers};
 ghost use Rattle.splits.specs.Table.{flattened};
 ghost use Rattle.monge.specs.Matrix.{rowsIn};
-ghost use Rattle.checks.specs.Lent.{judgeTable, judgePieceIn, judgeCounts, judgeLent};
+ghost use Rattle.checks.specs.Lent.{judgeTable, judgePieceIn, judgeLent};
 ghost use Rattle.checks.specs.Pieces.{cut, Ordered, passesIn};
 use bounds::Cause;
 use bounds::Network;
@@ -195,7 +196,7 @@ pub fn judge_piece(n: u32, m: u32, vertices: &[u32], lengths: &[u32]) -> u32
 
 // How many places the lent buffers of a network have.
 pub fn judge_buffers(sizes: usize, vertices: usize, lengths: usize) -> u32
-    ensures { λ r. ⌜ r ≡ judgeCounts sizes vertices lengths ⌝ }
+    ensures { λ r. ⌜ r ≡ judgeBuffers sizes vertices lengths ⌝ }
 {
     if sizes != Network::SIZE_PLACES {
         return Cause::BUFFER;

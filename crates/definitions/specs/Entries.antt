@@ -1,7 +1,7 @@
 -- What each entry returns and leaves in each lent buffer, for every input.
---   reading          the text reader
---   labelNetwork     the labelling of a lent network
 --   session          a session on one block
+--   labelNetwork     the labelling of a lent network
+--   reading          the text reader
 --   writeField       the nine-column field writer
 --   listing          what the program `labels` writes
 use mathlib.Core.Bool.{Bool, true, false, cond, _&&_}
@@ -12,12 +12,12 @@ use lib.ListN.{getD, length, take, drop, replicate}
 use Rattle.definitions.specs.declared.ReadAnswer.{ReadAnswer}
 use Rattle.definitions.specs.declared.LabelAnswer.{LabelAnswer}
 use Rattle.definitions.specs.declared.SessionAnswer.{SessionAnswer}
-use Rattle.definitions.specs.Limits.{maxLength, maxSide, maxCalls, sizePlaces, vertexPlaces, lengthPlaces, rowPlaces, labelPlaces, rectanglePlaces, callPlaces, answerPlaces, intervalPlaces, linePlaces, unusedInterval}
+use Rattle.definitions.specs.Limits.{maxLength, maxSide, maxCalls, sizePlaces, vertexPlaces, lengthPlaces, rowPlaces, labelPlaces, rectanglePlaces, callPlaces, answerPlaces, intervalPlaces, linePlaces, lastPlace, unusedInterval}
 use Rattle.definitions.specs.Lists.{all, upFrom, padded, within, firstCause}
-use Rattle.definitions.specs.Blocks.{Rectangle, isMonge}
+use Rattle.definitions.specs.Network.{Rectangle}
+use Rattle.definitions.specs.Blocks.{isMonge, blocks}
 use Rattle.definitions.specs.Model.{Interval, interval, intervals, Call, Answer, trace}
-use Rattle.definitions.specs.Network.{blocks}
-use Rattle.definitions.specs.Labelling.{State, labelOf, labelling, reached, extractions, insertions, metresOf, labels}
+use Rattle.definitions.specs.Labelling.{State, labelOf, labelling, reached, extractions, insertions, heldLabel, labels}
 use Rattle.definitions.specs.Judgement.{judgeSource, piecesOf, judgeNetwork}
 use Rattle.definitions.specs.Text.{blank, lineEnd, Read, refused, value, Plan, readPlan, judgeLength, readText, sizesOf, verticesOf, lengthsOf}
 
@@ -25,75 +25,9 @@ use Rattle.definitions.specs.Text.{blank, lineEnd, Read, refused, value,
 unfoldable pub hasPlaces : ℕ → List ℕ → Bool
 hasPlaces size buffer = eqb (length buffer) size
 
--- ---- the text reader
-
--- what it returns, and what stands in its three buffers
-pub record AfterRead : Type 0 where
-  pub answer : ReadAnswer
-  pub sizes : List ℕ
-  pub vertices : List ℕ
-  pub lengths : List ℕ
-
-unfoldable pub judgeReadBuffers : List ℕ → List ℕ → List ℕ → ℕ
-judgeReadBuffers sizes vertices lengths =
-    cond (hasPlaces sizePlaces sizes && (hasPlaces vertexPlaces vertices && hasPlaces lengthPlaces lengths)) 0 1
-
--- "number, counts 0"
-abbrev pub readRefusal : ℕ → ReadAnswer
-readRefusal k = record { number = k; n = 0; p = 0; source = 0 }
-
--- "none: reader's buffers all 0" for 3 to 8
-unfoldable pub afterRead : Read Plan → AfterRead
-afterRead (refused k) = record {
-  answer = readRefusal k;
-  sizes = replicate sizePlaces 0;
-  vertices = replicate vertexPlaces 0;
-  lengths = replicate lengthPlaces 0;
-}
-afterRead (value plan) = record {
-  answer = record { number = 0; n = plan .n; p = length (plan .pieces); source = plan .source };
-  sizes = sizesOf (plan .pieces);
-  vertices = verticesOf (plan .pieces);
-  lengths = lengthsOf (plan .pieces);
-}
-
--- "Order: 1, 2, then the text"; 1 and 2 leave every buffer
-unfoldable pub reading : List ℕ → List ℕ → List ℕ → List ℕ → AfterRead
-reading text sizes vertices lengths =
-    let cause = firstCause (judgeReadBuffers sizes vertices lengths ∷ judgeLength text ∷ []) in
-    cond (eqb cause 0)
-    (afterRead (readPlan text))
-    (record { answer = readRefusal cause; sizes = sizes; vertices = vertices; lengths = lengths })
-
--- ---- the labelling
-
--- what it returns, and what stands in its label buffer
-pub record AfterLabel : Type 0 where
-  pub answer : LabelAnswer
-  pub labels : List ℕ
-
--- "Labelling repeats 4 to 7 on the network it is lent, then 8"
-unfoldable pub judgeLabelling : ℕ → ℕ → List ℕ → List ℕ → List ℕ → ℕ → List ℕ → ℕ
-judgeLabelling n p sizes vertices lengths source buffer =
-    firstCause (cond (hasPlaces sizePlaces sizes && (hasPlaces vertexPlaces vertices && (hasPlaces lengthPlaces lengths && hasPlaces labelPlaces buffer))) 0 1
-    ∷ judgeNetwork n p sizes vertices lengths
-    ∷ judgeSource n source
-    ∷ [])
-
--- what an accepted labelling returns: "the gates reached, takes and brought in"
-unfoldable pub labelAnswer : State → LabelAnswer
-labelAnswer st = record { number = 0; reached = reached st; extracted = extractions st; inserted = insertions st }
-
-abbrev pub labelRefusal : ℕ → LabelAnswer
-labelRefusal k = record { number = k; reached = 0; extracted = 0; inserted = 0 }
-
--- a refusal leaves the buffer
-unfoldable pub labelNetwork : ℕ → ℕ → List ℕ → List ℕ → List ℕ → ℕ → List ℕ → AfterLabel
-labelNetwork n p sizes vertices lengths source buffer =
-    let cause = judgeLabelling n p sizes vertices lengths source buffer in
-    let st = labelling (blocks (piecesOf p sizes vertices lengths)) source in
-    let done : AfterLabel = record { answer = labelAnswer st; labels = labels st } in
-    cond (eqb cause 0) done (record { answer = labelRefusal cause; labels = buffer })
+-- the three buffers of a network, by how many places they have
+unfoldable pub judgeBuffers : ℕ → ℕ → ℕ → ℕ
+judgeBuffers sizes vertices lengths = cond (eqb sizes sizePlaces && (eqb vertices vertexPlaces && eqb lengths lengthPlaces)) 0 1
 
 -- ---- a session
 
@@ -117,10 +51,11 @@ judgeSession rows cols count lengths calls answers kept =
     ∷ cond (isMonge e rows cols) 0 7
     ∷ [])
 
--- the calls that the lent numbers say, three for each
+-- call j of the lent numbers, three for each
 unfoldable pub callAt : List ℕ → ℕ → Call
 callAt calls j = record { kind = getD calls (3 * j) 0; row = getD calls (3 * j + 1) 0; label = getD calls (3 * j + 2) 0 }
 
+-- the first `count` calls
 unfoldable pub callsOf : List ℕ → ℕ → List Call
 callsOf calls count = map (callAt calls) (upFrom 0 count)
 
@@ -128,6 +63,7 @@ callsOf calls count = map (callAt calls) (upFrom 0 count)
 unfoldable pub answersOf : List Answer → List ℕ
 answersOf answers = padded answerPlaces 0 (flatMap (λ a. a .code ∷ a .column ∷ a .total ∷ []) answers)
 
+-- the three numbers of an interval
 abbrev pub intervalNumbers : Interval → List ℕ
 intervalNumbers (interval p f l) = p ∷ f ∷ l ∷ []
 
@@ -139,6 +75,7 @@ keptOrder kept = kept
 unfoldable pub intervalsOf : List Interval → List ℕ
 intervalsOf kept = padded intervalPlaces unusedInterval (flatMap intervalNumbers (keptOrder kept))
 
+-- "number, counts 0"
 abbrev pub sessionRefusal : ℕ → SessionAnswer
 sessionRefusal k = record { number = k; inserted = 0; removed = 0 }
 
@@ -155,6 +92,74 @@ session rows cols count lengths calls answers kept =
     } in
     cond (eqb cause 0) done (record { answer = sessionRefusal cause; answers = answers; intervals = kept })
 
+-- ---- the labelling
+
+-- what it returns, and what stands in its label buffer
+pub record AfterLabel : Type 0 where
+  pub answer : LabelAnswer
+  pub labels : List ℕ
+
+-- 1, then "Labelling repeats 4 to 7 on the network it is lent, then 8"
+unfoldable pub judgeLabelling : ℕ → ℕ → List ℕ → List ℕ → List ℕ → ℕ → List ℕ → ℕ
+judgeLabelling n p sizes vertices lengths source buffer =
+    firstCause (cond (hasPlaces labelPlaces buffer) 0 1
+    ∷ judgeBuffers (length sizes) (length vertices) (length lengths)
+    ∷ judgeNetwork n p sizes vertices lengths
+    ∷ judgeSource n source
+    ∷ [])
+
+-- what an accepted labelling returns: "the gates reached, takes and brought in"
+unfoldable pub labelAnswer : State → LabelAnswer
+labelAnswer st = record { number = 0; reached = reached st; extracted = extractions st; inserted = insertions st }
+
+-- "number, counts 0"
+abbrev pub labelRefusal : ℕ → LabelAnswer
+labelRefusal k = record { number = k; reached = 0; extracted = 0; inserted = 0 }
+
+-- a refusal leaves the buffer
+unfoldable pub labelNetwork : ℕ → ℕ → List ℕ → List ℕ → List ℕ → ℕ → List ℕ → AfterLabel
+labelNetwork n p sizes vertices lengths source buffer =
+    let cause = judgeLabelling n p sizes vertices lengths source buffer in
+    let st = labelling (blocks (piecesOf p sizes vertices lengths)) source in
+    let done : AfterLabel = record { answer = labelAnswer st; labels = labels st } in
+    cond (eqb cause 0) done (record { answer = labelRefusal cause; labels = buffer })
+
+-- ---- the text reader
+
+-- what it returns, and what stands in its three buffers
+pub record AfterRead : Type 0 where
+  pub answer : ReadAnswer
+  pub sizes : List ℕ
+  pub vertices : List ℕ
+  pub lengths : List ℕ
+
+-- "number, counts 0"
+abbrev pub readRefusal : ℕ → ReadAnswer
+readRefusal k = record { number = k; n = 0; p = 0; source = 0 }
+
+-- "none: reader's buffers all 0" for 3 to 8
+unfoldable pub afterRead : Read Plan → AfterRead
+afterRead (refused k) = record {
+  answer = readRefusal k;
+  sizes = replicate sizePlaces 0;
+  vertices = replicate vertexPlaces 0;
+  lengths = replicate lengthPlaces 0;
+}
+afterRead (value plan) = record {
+  answer = record { number = 0; n = plan .n; p = length (plan .pieces); source = plan .source };
+  sizes = sizesOf (plan .pieces);
+  vertices = verticesOf (plan .pieces);
+  lengths = lengthsOf (plan .pieces);
+}
+
+-- "Order: 1, 2, then the text"; 1 and 2 leave every buffer
+unfoldable pub reading : List ℕ → List ℕ → List ℕ → List ℕ → AfterRead
+reading text sizes vertices lengths =
+    let cause = firstCause (judgeBuffers (length sizes) (length vertices) (length lengths) ∷ judgeLength text ∷ []) in
+    cond (eqb cause 0)
+    (afterRead (readPlan text))
+    (record { answer = readRefusal cause; sizes = sizes; vertices = vertices; lengths = lengths })
+
 -- ---- fields of nine columns
 
 -- the decimal digits of a number, as bytes; `fuel` bounds how many
@@ -170,6 +175,7 @@ decimal x = digitsOf 10 x
 abbrev pub dash : ℕ
 dash = 45
 
+-- "nine columns", and the largest number that they hold
 abbrev pub columnBytes : ℕ
 columnBytes = 9
 
@@ -186,7 +192,7 @@ nineColumns x = rightJustified columnBytes (cond (leb x maxColumn) (decimal x) (
 
 -- "The field writer judges 1, then 4, and leaves its line"
 unfoldable pub judgeWrite : List ℕ → ℕ → ℕ
-judgeWrite line place = firstCause (cond (hasPlaces linePlaces line) 0 1 ∷ cond (leb place 3) 0 4 ∷ [])
+judgeWrite line place = firstCause (cond (hasPlaces linePlaces line) 0 1 ∷ cond (leb place lastPlace) 0 4 ∷ [])
 
 -- the number returned, and what stands in the line
 pub record AfterWrite : Type 0 where
@@ -211,12 +217,13 @@ unfoldable pub refusalLine : ℕ → List ℕ
 refusalLine k = 114 ∷ 101 ∷ 102 ∷ 117 ∷ 115 ∷ 101 ∷ 100 ∷ blank ∷ (decimal k ++ (lineEnd ∷ []))
 
 -- "a line of source, gates reached (the source too), takes, intervals brought in; then for gates 1 to n a line of gate and label,
--- `-` for unreached"
+-- `-` for unreached": 4,294,967,295 is above 999,999,999
 unfoldable pub stateListing : ℕ → ℕ → State → List ℕ
 stateListing n source st =
     listingLine (source ∷ reached st ∷ extractions st ∷ insertions st ∷ [])
-    ++ flatMap (λ v. listingLine (v ∷ metresOf (labelOf v (st .settled)) ∷ [])) (upFrom 1 n)
+    ++ flatMap (λ v. listingLine (v ∷ heldLabel (labelOf v (st .settled)) ∷ [])) (upFrom 1 n)
 
+-- the listing of what was read
 unfoldable pub planListing : Read Plan → List ℕ
 planListing (refused k) = refusalLine k
 planListing (value plan) = stateListing (plan .n) (plan .source) (labelling (blocks (plan .pieces)) (plan .source))

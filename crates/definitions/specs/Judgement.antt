@@ -1,16 +1,17 @@
 -- Document 01, "Causes that turn an input away": the causes 4 to 8 of a network, each 0 or its number.
 --   judgeBounds judgeSize judgeVertices judgeRow judgeBlocks judgeSource   one cause each
---   judgePiece judgePieces                                                 a district, districts in order
+--   judgePiece                                                             a district
 --   pieceAt piecesOf judgeNetwork                                          a network in lent buffers
 -- The text reader and the labelling judge by these same definitions.
-use mathlib.Core.Bool.{Bool, cond, _&&_}
+use mathlib.Core.Bool.{cond, _&&_}
 use mathlib.Core.List.{List, [], _∷_, map}
 use Prim.Native.Nat.{ℕ, zero, suc, _+_, _*_}
 use lib.Dec.{eqb, leb}
 use lib.ListN.{getD, take, drop}
 use Rattle.definitions.specs.Limits.{maxVertices, maxPieces, maxSize, maxLength, rowPlaces, tablePlaces}
 use Rattle.definitions.specs.Lists.{every, different, within, upFrom, firstCause}
-use Rattle.definitions.specs.Network.{Piece, sizeOf, blocksOf, passes}
+use Rattle.definitions.specs.Network.{Piece}
+use Rattle.definitions.specs.Blocks.{blocksOf, passes}
 
 -- "n, p .. out of bounds"
 unfoldable pub judgeBounds : ℕ → ℕ → ℕ
@@ -45,10 +46,6 @@ judgeSource n source = cond (within n source) 0 8
 unfoldable pub judgePiece : ℕ → ℕ → Piece → ℕ
 judgePiece n m q = firstCause (judgeSize m ∷ judgeVertices n (q .vertices) ∷ judgeRows 0 (q .rows) ∷ judgeBlocks q ∷ [])
 
-unfoldable pub judgePieces : ℕ → List Piece → ℕ
-judgePieces n [] = 0
-judgePieces n (q ∷ qs) = firstCause (judgePiece n (sizeOf q) q ∷ judgePieces n qs ∷ [])
-
 -- ---- a lent network
 
 -- district d, from 0, of the lent buffers: "places its sizes do not use are not read"
@@ -60,6 +57,7 @@ pieceAt sizes vertices lengths d =
       rows = map (λ i. take m (drop (tablePlaces * d + rowPlaces * i) lengths)) (upFrom 0 m);
     }
 
+-- the p districts
 unfoldable pub piecesOf : ℕ → List ℕ → List ℕ → List ℕ → List Piece
 piecesOf p sizes vertices lengths = map (pieceAt sizes vertices lengths) (upFrom 0 p)
 

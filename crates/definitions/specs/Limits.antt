@@ -1,7 +1,7 @@
 -- The limits and bounds of document 01, one definition each, and the two operations on lengths.
 --   maxVertices maxPieces maxSize maxLength maxLabel   of a network
 --   maxSide maxCalls maxText                           of a session and of a text
---   sizePlaces .. linePlaces                           the sizes of the lent buffers
+--   sizePlaces .. linePlaces, lastPlace                the sizes of the lent buffers; the last place of a line
 --   unreached unusedInterval                           what stands where there is no label, no interval
 --   sum below                                          a label and a length; the order of sums
 use mathlib.Core.Bool.{Bool}
@@ -57,7 +57,7 @@ tablePlaces = 576
 abbrev pub labelPlaces : ℕ
 labelPlaces = 256
 
--- "Lent sizes: rectangle 576 (24 rows of 24), calls 192, answers 192, intervals 72"
+-- "Lent sizes: rectangle 576 (24 rows of 24), calls 192, answers 192 (unused places 0), intervals 72"
 abbrev pub rectanglePlaces : ℕ
 rectanglePlaces = 576
 
@@ -70,9 +70,12 @@ answerPlaces = 192
 abbrev pub intervalPlaces : ℕ
 intervalPlaces = 72
 
--- "the lent line, 36 bytes"
+-- "the lent line, 36 bytes with four places counted from 0"
 abbrev pub linePlaces : ℕ
 linePlaces = 36
+
+abbrev pub lastPlace : ℕ
+lastPlace = 3
 
 -- "holds 4,294,967,295 for an unreached gate and for places above n"
 abbrev pub unreached : ℕ

@@ -6,7 +6,7 @@
 --   countNew                                brought in and dropped, by comparing before and after
 --   Call Answer answerOf judge step         one call
 --   Trace extend trace                      a list of calls of any length
-use mathlib.Core.Bool.{Bool, true, false, cond, _&&_, _||_}
+use mathlib.Core.Bool.{Bool, false, cond, _&&_, _||_}
 use mathlib.Core.List.{List, [], _∷_, _++_, map}
 use Prim.Native.Nat.{ℕ, zero, suc, _+_}
 use lib.Dec.{eqb, ltb, leb}
@@ -14,7 +14,7 @@ use Rattle.definitions.specs.declared.Extraction.{Extraction}
 use Rattle.definitions.specs.declared.Extraction.the-variants.{Column, Nothing}
 use Rattle.definitions.specs.Limits.{maxLabel, sum, below}
 use Rattle.definitions.specs.Lists.{mem}
-use Rattle.definitions.specs.Blocks.{Rectangle}
+use Rattle.definitions.specs.Network.{Rectangle}
 
 -- ---- the earliest of least sum
 
@@ -29,6 +29,7 @@ lesser nobody y = y
 lesser (by p s) nobody = by p s
 lesser (by p s) (by p′ s′) = cond (below s′ s) (by p′ s′) (by p s)
 
+-- the earliest that reaches the least sum
 unfoldable pub least : List Best → Best
 least [] = nobody
 least (x ∷ xs) = lesser x (least xs)
@@ -82,6 +83,7 @@ pub data Interval : Type 0 where
 unfoldable pub adjoins : Interval → Interval → Bool
 adjoins (interval p f l) (interval p′ f′ l′) = eqb p p′ && eqb (suc l) f′
 
+-- the two as one
 unfoldable pub joined : Interval → Interval → Interval
 joined (interval p f l) (interval p′ f′ l′) = interval p f l′
 
@@ -104,9 +106,11 @@ runs w c (suc n) = prependColumn c (w c) (runs w (suc c) n)
 unfoldable pub intervals : Rectangle → ℕ → Model → List Interval
 intervals e cols m = runs (available e m) 0 cols
 
+-- same owner, first and last column
 unfoldable pub sameInterval : Interval → Interval → Bool
 sameInterval (interval p f l) (interval p′ f′ l′) = eqb p p′ && eqb f f′ && eqb l l′
 
+-- an interval is among others
 unfoldable pub isKept : Interval → List Interval → Bool
 isKept v [] = false
 isKept v (u ∷ us) = sameInterval v u || isKept v us
@@ -145,6 +149,7 @@ extractionOf (by c s) = Column c s
 abbrev pub coded : ℕ → Answer
 coded k = record { code = k; column = 0; total = 0 }
 
+-- a row is told
 unfoldable pub isActivated : ℕ → List Activation → Bool
 isActivated r [] = false
 isActivated r (a ∷ rest) = eqb r (a .row) || isActivated r rest
@@ -172,6 +177,7 @@ pub record Stepped : Type 0 where
   pub model : Model
   pub answer : Answer
 
+-- one call on a rectangle of so many rows and columns: a call that is refused "answers (that number, 0, 0) and the book stays"
 unfoldable pub step : Rectangle → ℕ → ℕ → Model → Call → Stepped
 step e rows cols m k =
     let found = leastFrom (available e m) 0 cols in
@@ -190,6 +196,7 @@ pub record Trace : Type 0 where
   pub inserted : ℕ
   pub removed : ℕ
 
+-- before the first call
 abbrev pub freshTrace : Trace
 freshTrace = record { model = fresh; answers = []; inserted = 0; removed = 0 }
 
@@ -204,10 +211,11 @@ extend e rows cols t k =
       removed = t .removed + countNew (intervals e cols (t .model)) (intervals e cols (s .model));
     }
 
--- a list of calls of any length, one after the other
+-- more calls, one after the other
 unfoldable pub traceFrom : Rectangle → ℕ → ℕ → Trace → List Call → Trace
 traceFrom e rows cols t [] = t
 traceFrom e rows cols t (k ∷ ks) = traceFrom e rows cols (extend e rows cols t k) ks
 
+-- a list of calls of any length on a fresh model
 unfoldable pub trace : Rectangle → ℕ → ℕ → List Call → Trace
 trace e rows cols ks = traceFrom e rows cols freshTrace ks

@@ -1,17 +1,17 @@
--- Document 01, "The tables and what is made of them", and the blocks of a network.
---   Piece entry Network        districts with their gates and tables
---   Block blockOf blocks       the blocks, numbered through the districts
---   ArcIn Arc Walk             legs, and runs with their lengths
---   Distance weight            the shortest run; the sum over districts of m·⌈log₂ m⌉
+-- Document 01, "The tables and what is made of them": districts, legs and runs.
+--   Rectangle Piece entry sizeOf     districts with their gates and tables
+--   ArcIn Arc Walk                   legs, and runs with their lengths
+--   Shortest Unreached Distance      what a label says
 use mathlib.Core.Path.{_≡_}
 use mathlib.Core.Logic.{_≢_}
-use mathlib.Core.Bool.{Bool}
-use mathlib.Core.List.{List, [], _∷_, _++_, map}
-use Prim.Native.Nat.{ℕ, zero, suc, pred, _+_, _-_, _*_, _≤_, _<_}
+use mathlib.Core.List.{List, []}
+use Prim.Native.Nat.{ℕ, _+_, _≤_, _<_}
 use lib.ListN.{getD, length}
 use Rattle.definitions.specs.Limits.{unreached}
-use Rattle.definitions.specs.Lists.{total}
-use Rattle.definitions.specs.Blocks.{Rectangle, Window, windowsOf, rowsOf, columnsOf, isMonge, logarithm}
+
+-- The entry at a row and a column. How many rows and columns there are is given beside it.
+abbrev pub Rectangle : Type 0
+Rectangle = ℕ → ℕ → ℕ
 
 -- A district: "lists m different gates in clockwise order and a table". `vertices` are its gates, `rows` the table's rows.
 pub record Piece : Type 0 where
@@ -26,47 +26,7 @@ entry q i j = getD (getD (q .rows) i []) j 0
 unfoldable pub sizeOf : Piece → ℕ
 sizeOf q = length (q .vertices)
 
--- "A network has gates numbered 1 to n and p districts, numbered from 1"
-pub record Network : Type 0 where
-  pub n : ℕ
-  pub pieces : List Piece
-
--- ---- blocks
-
--- the gates of its rows and of its columns, and its entries
-pub record Block : Type 0 where
-  pub rows : List ℕ
-  pub cols : List ℕ
-  pub lengths : Rectangle
-
--- the block of a district at a window: entry (i, k) is that from the place of row i to the place of column k
-unfoldable pub blockOf : Piece → Window → Block
-blockOf q w = record {
-  rows = map (λ i. getD (q .vertices) i 0) (rowsOf w);
-  cols = map (λ j. getD (q .vertices) j 0) (columnsOf w);
-  lengths = λ i k. entry q (getD (rowsOf w) i 0) (getD (columnsOf w) k 0);
-}
-
-unfoldable pub blocksOf : Piece → List Block
-blocksOf q = map (blockOf q) (windowsOf (sizeOf q))
-
--- "Blocks are numbered from 1 in that order through the districts"
-unfoldable pub blocks : List Piece → List Block
-blocks [] = []
-blocks (q ∷ qs) = blocksOf q ++ blocks qs
-
-abbrev pub noBlock : Block
-noBlock = record { rows = []; cols = []; lengths = λ i k. 0 }
-
-unfoldable pub blockNumbered : List Piece → ℕ → Block
-blockNumbered qs number = getD (blocks qs) (pred number) noBlock
-
--- a block is checked
-unfoldable pub passes : Block → Bool
-passes b = isMonge (b .lengths) (length (b .rows)) (length (b .cols))
-
--- ---- walks
-
+-- what stands past the last district
 abbrev pub noPiece : Piece
 noPiece = record { vertices = []; rows = [] }
 
@@ -79,9 +39,9 @@ pub record ArcIn (q : Piece) (u v l : ℕ) : Type 0 where
   pub differ : here ≢ there
   pub tail : getD (q .vertices) here 0 ≡ u
   pub head : getD (q .vertices) there 0 ≡ v
-  pub metres : entry q here there ≡ l
+  pub length-is : entry q here there ≡ l
 
--- a leg of one of the districts: "the union of the tables"
+-- a leg of one of the districts: the union of their tables
 pub record Arc (qs : List Piece) (u v l : ℕ) : Type 0 where
   pub number : ℕ
   pub number-in : number < length qs
@@ -105,7 +65,3 @@ Unreached qs s v = (l : ℕ) → Walk (Arc qs) s v l → ⊥
 pub data Distance (qs : List Piece) (s v : ℕ) : ℕ → Type 0 where
   distance : (label : ℕ) → label < unreached → Shortest qs s v label → Distance qs s v label
   none : Unreached qs s v → Distance qs s v unreached
-
--- the sum over districts of m·⌈log₂ m⌉
-unfoldable pub weight : List Piece → ℕ
-weight qs = total (map (λ q. sizeOf q * logarithm (sizeOf q)) qs)

@@ -5,10 +5,10 @@
 --   readRows readPiece readPieces         districts, judged as they are read
 --   Plan readPlan readText                the whole text
 --   sizesOf verticesOf lengthsOf          what the reader leaves in the lent buffers
-use mathlib.Core.Bool.{Bool, true, false, cond, not, _&&_, _||_}
-use mathlib.Core.List.{List, [], _∷_, _++_, map, flatMap}
+use mathlib.Core.Bool.{Bool, false, cond, not, _&&_, _||_}
+use mathlib.Core.List.{List, [], _∷_, map, flatMap}
 use Prim.Native.Nat.{ℕ, zero, suc, _+_, _-_, _*_}
-use lib.Dec.{eqb, leb, ltb}
+use lib.Dec.{eqb, leb}
 use lib.ListN.{getD, length, take, drop}
 use Rattle.definitions.specs.declared.Field.{Field}
 use Rattle.definitions.specs.declared.Field.the-variants.{Number, Malformed}
@@ -19,6 +19,7 @@ use Rattle.definitions.specs.Judgement.{judgeBounds, judgeSize, judgeVer
 
 -- ---- a field
 
+-- the bytes of a blank and of a line's end
 abbrev pub blank : ℕ
 blank = 32
 
@@ -29,9 +30,11 @@ lineEnd = 10
 abbrev pub fieldBytes : ℕ
 fieldBytes = 6
 
+-- the bytes `0` to `9`
 unfoldable pub isDigit : ℕ → Bool
 isDigit b = leb 48 b && leb b 57
 
+-- what stands after the blanks at the front
 unfoldable pub skipBlanks : List ℕ → List ℕ
 skipBlanks [] = []
 skipBlanks (b ∷ bs) = cond (eqb b blank) (skipBlanks bs) (b ∷ bs)
@@ -82,6 +85,7 @@ abbrev pub require : ℕ → Read (Unit {0})
 require zero = value tt
 require (suc k) = refused (suc k)
 
+-- the number at a place, else 3
 unfoldable pub readField : List ℕ → ℕ → Read ℕ
 readField text at = do
   _ ← require (fieldCause (fieldAt text at))
@@ -175,7 +179,7 @@ readPlan text = do
 unfoldable pub judgeLength : List ℕ → ℕ
 judgeLength text = cond (leb (length text) maxText) 0 2
 
--- "Order: 1, 2, then the text from front to back"
+-- "2, then the text from front to back"
 unfoldable pub readText : List ℕ → Read Plan
 readText text = do
   _ ← require (judgeLength text)
@@ -190,6 +194,7 @@ sizesOf qs = padded sizePlaces 0 (map sizeOf qs)
 unfoldable pub verticesOf : List Piece → List ℕ
 verticesOf qs = padded vertexPlaces 0 (flatMap (λ q. padded rowPlaces 0 (q .vertices)) qs)
 
+-- a district's table in 24 rows of 24
 unfoldable pub tableOf : Piece → List ℕ
 tableOf q = padded tablePlaces 0 (flatMap (padded rowPlaces 0) (q .rows))
 

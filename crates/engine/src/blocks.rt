@@ -3,7 +3,7 @@ ghost use mathlib.Core.Path.{_≡_};
 ghost use mathlib.Core.List.{List};
 ghost use Prim.Native.Nat.{_+_, _*_, _≤_, _<_};
 ghost use lib.ListN.{length};
-ghost use Rattle.definitions.specs.Network.{Block};
+ghost use Rattle.definitions.specs.Blocks.{Block};
 ghost use Rattle.definitions.specs.Labelling.{BlockState, activation};
 ghost use Rattle.layout.specs.Layout.{partNumbers};
 ghost use Rattle.engine.specs.Tree.Words.{Key};

@@ -4,7 +4,8 @@ ghost use mathlib.Core.List.{List};
 ghost use Prim.Native.Nat.{ℕ, _≤_, _<_};
 ghost use lib.ListN.{length, replicate};
 ghost use Rattle.definitions.specs.Limits.{unreached};
-ghost use Rattle.definitions.specs.Network.{Piece, Block, blocks};
+ghost use Rattle.definitions.specs.Network.{Piece};
+ghost use Rattle.definitions.specs.Blocks.{Block, blocks};
 ghost use Rattle.definitions.specs.Labelling.{BlockState};
 ghost use Rattle.definitions.specs.Judgement.{piecesOf};
 ghost use Rattle.definitions.specs.Entries.{judgeLabelling, labelNetwork};
@@ -13,7 +14,7 @@ ghost use Rattle.engine.specs.Labelling.Activations.{Spot, Ready, Activa
 ghost use Rattle.engine.specs.Labelling.Vertices.{Given, CanSettle, Settles};
 ghost use Rattle.engine.specs.Labelling.Extractions.{Columned, Stepped};
 ghost use Rattle.engine.specs.Labelling.Loop.{Begun, CanLabel, Started, CanFinish, Labelled};
-ghost use Rattle.engine.specs.Labelling.Entry.{Plain};
+ghost use Rattle.engine.specs.Promises.{Plain};
 use crate::blocks::activate_block;
 use crate::blocks::extract_block;
 use crate::tree;

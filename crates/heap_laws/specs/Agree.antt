@@ -5,7 +5,7 @@ use mathlib.Core.Path.{_≡_, refl, ap, _∙_}
 use mathlib.Core.List.{List, [], _∷_}
 use Prim.Native.Nat.{ℕ, _<_}
 use native.Mathlib.Omega.{arith}
-use Rattle.definitions.specs.Blocks.{Rectangle}
+use Rattle.definitions.specs.Network.{Rectangle}
 use Rattle.definitions.specs.Model.{least, Activation, Model, through, parent, available, leastFrom, intervals, Call, step, Trace, freshTrace, extend, traceFrom, trace}
 use Rattle.basics.specs.Lists.{Every}
 use Rattle.heap_laws.specs.Found.{leastFrom-same}

@@ -13,7 +13,7 @@ use Prim.Native.Nat.{ℕ, zero, suc, _+_, _-_, _≤_, _<_}
 use native.Mathlib.Nat.{zero-add}
 use native.Mathlib.Omega.{arith}
 use borrow.Author.Tests.{eq-eqb, ne-eqb}
-use Rattle.definitions.specs.Blocks.{Rectangle}
+use Rattle.definitions.specs.Network.{Rectangle}
 use Rattle.definitions.specs.Model.{Best, nobody, by, lesser, placed, leastFrom, Model, available, extract, Interval, interval, adjoins, joined, prepend, prependColumn, runs, intervals, countNew, Call, coded, step}
 use Rattle.basics.specs.Tests.{Truth, holds, fails, truth}
 use Rattle.basics.specs.Lists.{mem-snoc}

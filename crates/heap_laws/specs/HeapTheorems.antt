@@ -18,7 +18,8 @@ use native.Mathlib.Omega.{arith}
 use lib.ListN.{length}
 use Rattle.definitions.specs.Limits.{sum}
 use Rattle.definitions.specs.Lists.{mem}
-use Rattle.definitions.specs.Blocks.{Rectangle, Monge, isMonge}
+use Rattle.definitions.specs.Network.{Rectangle}
+use Rattle.definitions.specs.Blocks.{Monge, isMonge}
 use Rattle.definitions.specs.Model.{by, parent, available, extract, Model, Interval, interval, intervals, isKept, Call, coded, judge, step, Trace, extend, trace}
 use Rattle.basics.specs.Lists.{Every}
 use Rattle.heap_laws.specs.Inequality as inequality

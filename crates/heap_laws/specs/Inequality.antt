@@ -12,7 +12,8 @@ use native.Mathlib.Decide.{le-ind}
 use borrow.Author.Tests.{leb-true, le-leb}
 use Rattle.definitions.specs.Limits.{sum}
 use Rattle.definitions.specs.Lists.{all}
-use Rattle.definitions.specs.Blocks.{Rectangle, Monge, corners, isMonge}
+use Rattle.definitions.specs.Network.{Rectangle}
+use Rattle.definitions.specs.Blocks.{Monge, corners, isMonge}
 use Rattle.basics.specs.Lists.{all-at, all-is}
 
 pub isMonge-is : (e : Rectangle) (rows cols : ℕ) → isMonge e rows cols ≡ true → Monge e rows cols

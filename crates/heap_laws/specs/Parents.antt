@@ -17,7 +17,8 @@ use lib.Dec.{eqb}
 use lib.ListN.{getD, length}
 use Rattle.definitions.specs.Limits.{sum}
 use Rattle.definitions.specs.Lists.{mem}
-use Rattle.definitions.specs.Blocks.{Rectangle, Monge}
+use Rattle.definitions.specs.Network.{Rectangle}
+use Rattle.definitions.specs.Blocks.{Monge}
 use Rattle.definitions.specs.Model.{Best, nobody, by, lesser, least, Activation, Model, through, parent, available, isActivated}
 use Rattle.basics.specs.Tests.{clash, or-left, or-right, split-at, Order, less, more, order, Truth, holds, fails, truth}
 use Rattle.basics.specs.Lists.{Every, every-at}

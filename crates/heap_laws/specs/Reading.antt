@@ -10,7 +10,7 @@ use Prim.Native.Nat.{ℕ, suc, _≤_, _<_}
 use native.Mathlib.Omega.{arith}
 use Rattle.definitions.specs.Limits.{sum, below}
 use Rattle.definitions.specs.Lists.{mem}
-use Rattle.definitions.specs.Blocks.{Rectangle}
+use Rattle.definitions.specs.Network.{Rectangle}
 use Rattle.definitions.specs.Model.{Best, nobody, by, Model, parent, available, intervals}
 use Rattle.basics.specs.Tests.{Truth, holds, fails, truth}
 use Rattle.heap_laws.specs.Least.{beats}

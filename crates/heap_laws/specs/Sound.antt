@@ -16,7 +16,7 @@ use lib.Dec.{eqb}
 use lib.ListN.{length, length-map}
 use Rattle.definitions.specs.Limits.{maxLabel, sum}
 use Rattle.definitions.specs.Lists.{mem}
-use Rattle.definitions.specs.Blocks.{Rectangle}
+use Rattle.definitions.specs.Network.{Rectangle}
 use Rattle.definitions.specs.Model.{Best, nobody, by, lesser, least, Activation, Model, fresh, through, parent, available, leastFrom, isActivated, Call, activate, extract, step, Trace, extend, trace}
 use Rattle.basics.specs.Tests.{clash, or-left, Truth, holds, fails, truth}
 use Rattle.basics.specs.Lists.{Every, every-snoc, every-map, Different, mem-snoc, different-snoc, at-most}

@@ -10,7 +10,8 @@ use Prim.Native.Nat.{ℕ, _+_, _*_, _≤_}
 use native.Mathlib.Nat.{add-zero}
 use native.Mathlib.Omega.{arith}
 use lib.ListN.{length, length-append}
-use Rattle.definitions.specs.Blocks.{Rectangle, Monge}
+use Rattle.definitions.specs.Network.{Rectangle}
+use Rattle.definitions.specs.Blocks.{Monge}
 use Rattle.definitions.specs.Lists.{mem}
 use Rattle.definitions.specs.Model.{Best, nobody, by, least, parent, available, leastFrom, Model, fresh, activate, extract, intervals, countNew, judge, Call, coded, step, Trace, extend, trace}
 use Rattle.heap_laws.specs.Calls.{Cases, activates, extracts, refuses, cases, step-activate, step-extract, step-refused, trace-induction}

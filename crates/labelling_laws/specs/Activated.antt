@@ -4,6 +4,7 @@
 --   settled-upTo                     a settled row bounds the least sum of each column
 --   not-activated                    a vertex that is not settled is no activated row
 use mathlib.Core.Path.{_≡_, refl, sym, _∙_}
+use mathlib.Core.Option.{Option, none, some}
 use mathlib.Core.Bool.{true, false}
 use mathlib.Core.List.{List, [], _∷_, _++_, append-assoc, append-nil}
 use mathlib.Core.Logic.{_≢_}
@@ -13,7 +14,7 @@ use borrow.Author.Tests.{ne-eqb, eqb-true}
 use lib.Dec.{eqb}
 use lib.ListN.{getD}
 use Rattle.definitions.specs.Limits.{sum}
-use Rattle.definitions.specs.Blocks.{Rectangle}
+use Rattle.definitions.specs.Network.{Rectangle}
 use Rattle.definitions.specs.Model.{Best, nobody, by, lesser, least, Activation, through, parent, isActivated}
 use Rattle.definitions.specs.Labelling.{placeOf, Settled, labelOf}
 use Rattle.basics.specs.Tests.{clash, Order, less, more, order, Truth, holds, fails, truth, Equal, equal, differ, equality}
@@ -22,9 +23,9 @@ use Rattle.heap_laws.specs.Least.{UpTo, upTo-lesser}
 use Rattle.heap_laws.specs.Parents.{rowLabel}
 use Rattle.labelling_laws.specs.Places.{place-in}
 
-unfoldable pub activatedOne : Best → ℕ → List Activation
-activatedOne nobody l = []
-activatedOne (by r z) l = record { row = r; label = l } ∷ []
+unfoldable pub activatedOne : Option ℕ → ℕ → List Activation
+activatedOne none l = []
+activatedOne (some r) l = record { row = r; label = l } ∷ []
 
 -- the rows of a block that are settled, in the order settled
 unfoldable pub activatedBy : List ℕ → List Settled → List Activation
@@ -44,13 +45,13 @@ unfolding activatedBy activatedOne isActivated rowLabel
 row-settled P rows r [] h q = absurd (clash q refl)
 row-settled P rows r (x ∷ xs) h q = go (placeOf (x .vertex) 0 rows) refl (λ k. row-settled P rows r xs (h .1) k) q
   where
-    go : (y : Best) → placeOf (x .vertex) 0 rows ≡ y → (isActivated r (activatedBy rows xs) ≡ true → P (getD rows r 0) (rowLabel r (activatedBy rows xs)))
+    go : (y : Option ℕ) → placeOf (x .vertex) 0 rows ≡ y → (isActivated r (activatedBy rows xs) ≡ true → P (getD rows r 0) (rowLabel r (activatedBy rows xs)))
         → isActivated r (activatedOne y (x .label) ++ activatedBy rows xs) ≡ true → P (getD rows r 0) (rowLabel r (activatedOne y (x .label) ++ activatedBy rows xs))
-    go nobody p ih q = ih q
-    go (by k z) p ih q = this (equality r k)
+    go none p ih q = ih q
+    go (some k) p ih q = this (equality r k)
       where
-        this : Equal r k → P (getD rows r 0) (rowLabel r (activatedOne (by k z) (x .label) ++ activatedBy rows xs))
-        this (equal t e) = simp t (rw (e, (place-in (x .vertex) rows k z p) .1) (h .0))
+        this : Equal r k → P (getD rows r 0) (rowLabel r (activatedOne (some k) (x .label) ++ activatedBy rows xs))
+        this (equal t e) = simp t (rw (e, (place-in (x .vertex) rows k p) .1) (h .0))
         this (differ t e) = simp t (ih (simp t at q))
 
 upTo-right : (n : ℕ) (x y : Best) → UpTo n y → UpTo n (lesser x y)
@@ -63,35 +64,35 @@ upTo-right n (by r s) (by r′ s′) h = go (order s′ s)
     go (less a l) = simp a h
     go (more a l) = simp a (omega arith)
 
-pub settled-upTo : (e : Rectangle) (rows : List ℕ) (c v r z l : ℕ) (xs : List Settled) → labelOf v xs ≡ by v l → placeOf v 0 rows ≡ by r z
+pub settled-upTo : (e : Rectangle) (rows : List ℕ) (c v r l : ℕ) (xs : List Settled) → labelOf v xs ≡ some l → placeOf v 0 rows ≡ some r
     → UpTo (sum l (e r c)) (parent e (activatedBy rows xs) c)
 unfolding activatedBy activatedOne parent least through labelOf
-settled-upTo e rows c v r z l [] h p = let z : _≡_ {A = ℕ} 0 1 = cc in absurd (omega arith)
-settled-upTo e rows c v r z l (x ∷ xs) h p = go (truth (eqb v (x .vertex))) (λ k. settled-upTo e rows c v r z l xs k p)
+settled-upTo e rows c v r l [] h p = let z : _≡_ {A = ℕ} 0 1 = cc in absurd (omega arith)
+settled-upTo e rows c v r l (x ∷ xs) h p = go (truth (eqb v (x .vertex))) (λ k. settled-upTo e rows c v r l xs k p)
   where
-    after : (y : Best) → UpTo (sum l (e r c)) (parent e (activatedBy rows xs) c) → UpTo (sum l (e r c)) (parent e (activatedOne y (x .label) ++ activatedBy rows xs) c)
-    after nobody i = i
-    after (by k z) i = upTo-right (sum l (e r c)) (by k (sum (x .label) (e k c))) (parent e (activatedBy rows xs) c) i
+    after : (y : Option ℕ) → UpTo (sum l (e r c)) (parent e (activatedBy rows xs) c) → UpTo (sum l (e r c)) (parent e (activatedOne y (x .label) ++ activatedBy rows xs) c)
+    after none i = i
+    after (some k) i = upTo-right (sum l (e r c)) (by k (sum (x .label) (e k c))) (parent e (activatedBy rows xs) c) i
 
-    go : Truth (eqb v (x .vertex)) → (labelOf v xs ≡ by v l → UpTo (sum l (e r c)) (parent e (activatedBy rows xs) c)) → UpTo (sum l (e r c)) (parent e (activatedBy rows (x ∷ xs)) c)
+    go : Truth (eqb v (x .vertex)) → (labelOf v xs ≡ some l → UpTo (sum l (e r c)) (parent e (activatedBy rows xs) c)) → UpTo (sum l (e r c)) (parent e (activatedBy rows (x ∷ xs)) c)
     go (holds t) ih =
         let a : v ≡ x .vertex = eqb-true v (x .vertex) t in
-        let b : by v (x .label) ≡ by v l = simp t at h in
+        let b : some (x .label) ≡ some l = simp t at h in
         let m : x .label ≡ l = cc in
         rw (← a, p) (upTo-lesser (sum l (e r c)) (by r (sum (x .label) (e r c))) (parent e (activatedBy rows xs) c) (omega arith))
     go (fails t) ih = after (placeOf (x .vertex) 0 rows) (ih (simp t at h))
 
-pub not-activated : (rows : List ℕ) (v r z : ℕ) (xs : List Settled) → labelOf v xs ≡ nobody → placeOf v 0 rows ≡ by r z → isActivated r (activatedBy rows xs) ≡ false
+pub not-activated : (rows : List ℕ) (v r : ℕ) (xs : List Settled) → labelOf v xs ≡ none → placeOf v 0 rows ≡ some r → isActivated r (activatedBy rows xs) ≡ false
 unfolding activatedBy activatedOne isActivated labelOf
-not-activated rows v r z [] h p = refl
-not-activated rows v r z (x ∷ xs) h p = go (equality v (x .vertex)) (λ k. not-activated rows v r z xs k p)
+not-activated rows v r [] h p = refl
+not-activated rows v r (x ∷ xs) h p = go (equality v (x .vertex)) (λ k. not-activated rows v r xs k p)
   where
-    after : (y : Best) → placeOf (x .vertex) 0 rows ≡ y → v ≢ x .vertex → isActivated r (activatedBy rows xs) ≡ false → isActivated r (activatedOne y (x .label) ++ activatedBy rows xs) ≡ false
-    after nobody q n i = i
-    after (by k w) q n i =
-        let d : r ≢ k = λ (u : r ≡ k). n (sym ((place-in v rows r z p) .1) ∙ rw u ((place-in (x .vertex) rows k w q) .1)) in
+    after : (y : Option ℕ) → placeOf (x .vertex) 0 rows ≡ y → v ≢ x .vertex → isActivated r (activatedBy rows xs) ≡ false → isActivated r (activatedOne y (x .label) ++ activatedBy rows xs) ≡ false
+    after none q n i = i
+    after (some k) q n i =
+        let d : r ≢ k = λ (u : r ≡ k). n (sym ((place-in v rows r p) .1) ∙ rw u ((place-in (x .vertex) rows k q) .1)) in
         simp (ne-eqb r k d) i
 
-    go : Equal v (x .vertex) → (labelOf v xs ≡ nobody → isActivated r (activatedBy rows xs) ≡ false) → isActivated r (activatedBy rows (x ∷ xs)) ≡ false
+    go : Equal v (x .vertex) → (labelOf v xs ≡ none → isActivated r (activatedBy rows xs) ≡ false) → isActivated r (activatedBy rows (x ∷ xs)) ≡ false
     go (equal t q) ih = let w : _≡_ {A = ℕ} 0 1 = cc (simp t at h) in absurd (omega arith)
     go (differ t n) ih = after (placeOf (x .vertex) 0 rows) refl n (ih (simp t at h))

@@ -14,8 +14,8 @@ use borrow.Author.Tests.{ne-eqb}
 use lib.ListN.{getD, length, length-map}
 use Rattle.definitions.specs.Limits.{maxSize}
 use Rattle.definitions.specs.Lists.{mem, total, upFrom, downTo}
-use Rattle.definitions.specs.Blocks.{Window, windowsOf, rowsOf, columnsOf, logarithm}
-use Rattle.definitions.specs.Network.{Piece, entry, sizeOf, Block, blockOf, blocksOf, blocks, noBlock, passes, noPiece, ArcIn, Arc, Walk, weight}
+use Rattle.definitions.specs.Network.{Piece, entry, sizeOf, noPiece, ArcIn, Arc, Walk}
+use Rattle.definitions.specs.Blocks.{Window, windowsOf, rowsOf, columnsOf, logarithm, Block, blockOf, blocksOf, blocks, noBlock, passes, weight}
 use Rattle.basics.specs.Lists.{Every, every-at, every-append, Any, any-at, at-any, any-left, any-right, any-cases, any-map, any-back, total-append, Different}
 use Rattle.heap_laws.specs.Inequality.{isMonge-is}
 use Rattle.splits.specs.Windows.{Inside, windows-inside, pair-once, spanned, Spans, rows-few, cols-few}
@@ -103,7 +103,7 @@ arc-to-block q u v l a w s =
       col-in = rw cols-length col-in;
       tail = row-vertex q w i row-in ∙ rw at-row (a .tail);
       head = col-vertex q w k col-in ∙ rw at-col (a .head);
-      metres = entry-at q w i k row-in col-in ∙ rw (at-row, at-col) (a .metres);
+      length-is = entry-at q w i k row-in col-in ∙ rw (at-row, at-col) (a .length-is);
     }
 
 arc-to-piece : (q : Piece) (u v l : ℕ) (w : Window) → Inside (sizeOf q) w → ArcOf (blockOf q w) u v l → ArcIn q u v l
@@ -118,7 +118,7 @@ arc-to-piece q u v l w i a =
       differ = ⊎-elim (λ (p : w .row0 + w .rows ≤ w .col0). λ q. omega arith) (λ (p : w .col0 + w .cols ≤ w .row0). λ q. omega arith) (i .apart);
       tail = sym (row-vertex q w (a .row) row-in) ∙ a .tail;
       head = sym (col-vertex q w (a .col) col-in) ∙ a .head;
-      metres = sym (entry-at q w (a .row) (a .col) row-in col-in) ∙ a .metres;
+      length-is = sym (entry-at q w (a .row) (a .col) row-in col-in) ∙ a .length-is;
     }
 
 module _ (n u v l : ℕ) where

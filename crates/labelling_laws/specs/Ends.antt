@@ -6,6 +6,7 @@
 --   welcome-start welcome-step           for a program: no activation of a step is refused
 use mathlib.Core.Path.{_≡_, refl, sym, ap, _∙_}
 use mathlib.Core.List.{List, [], _∷_, map, map-map}
+use mathlib.Core.Option.{Option, none, some}
 use mathlib.Core.Logic.{_⊎_, inl, inr}
 use Prim.Native.Nat.{ℕ, zero, suc, _+_, _-_, _*_, _≤_, _<_}
 use native.Mathlib.Nat.{add-zero}
@@ -14,7 +15,7 @@ use lib.ListN.{length, set}
 use Rattle.definitions.specs.Limits.{maxLabel}
 use Rattle.definitions.specs.Lists.{total}
 use Rattle.definitions.specs.Model.{Best, nobody, by}
-use Rattle.definitions.specs.Network.{Block}
+use Rattle.definitions.specs.Blocks.{Block}
 use Rattle.definitions.specs.Labelling.{BlockState, extraction, freshBlock, apply, leastOf, activateVertex, State, labelOf, settleAs, settle, noBlockState, chosen, placeIn, extractFrom, advance, steps, start, columns, labelling, reached, extractions, insertions}
 use Rattle.basics.specs.Lists.{Every, every-imp, every-map, map-same, total-set, total-le, Different}
 use Rattle.heap_laws.specs.Found.{Lowest, found-is}
@@ -28,9 +29,9 @@ settle-extracts : (v l : ℕ) (st : State) → extractions (settle v l st) ≡ e
 unfolding settle settleAs extractions
 settle-extracts v l st = go (labelOf v (st .settled))
   where
-    go : (x : Best) → extractions (settleAs x v l st) ≡ extractions st
-    go nobody = ap total (map-same (activateVertex v l) (λ s. length (s .trace .model .extracted)) (st .blocks) (activate-extracted v l))
-    go (by r s) = refl
+    go : (x : Option ℕ) → extractions (settleAs x v l st) ≡ extractions st
+    go none = ap total (map-same (activateVertex v l) (λ s. length (s .trace .model .extracted)) (st .blocks) (activate-extracted v l))
+    go (some l′) = refl
 
 pub step-extracts : (i s : ℕ) (st : State) → chosen st ≡ by i s → extractions (extractFrom (by i s) st) ≡ suc (extractions st)
 unfolding extractFrom chosen extractions
@@ -124,18 +125,18 @@ module _ (bs : List Block) (n source : ℕ) (given : Setting bs n source) where
   pub calls-done : (m : ℕ) → Every (λ s. Every (λ a. a .code ≡ 0) (s .trace .answers)) ((steps m (start bs source)) .blocks)
   calls-done m = every-imp _ _ ((now m) .blocks) (λ s g. g .fine .done) (held m .inv .good)
 
-  labelled-at : (m v l : ℕ) → labelOf v ((now m) .settled) ≡ by v l → Labelled bs n source (held m .level) (length ((now m) .settled)) v l
+  labelled-at : (m v l : ℕ) → labelOf v ((now m) .settled) ≡ some l → Labelled bs n source (held m .level) (length ((now m) .settled)) v l
   labelled-at m v l q = labelled v (Labelled bs n source (held m .level) (length ((now m) .settled))) l ((now m) .settled) (held m .inv .labels) q
 
   pub reached-few : (m : ℕ) → reached (steps m (start bs source)) ≤ n
   unfolding reached
   reached-few m = let h = held m in settled-few bs n source (h .level) (length ((now m) .settled)) ((now m) .settled) (h .inv .different) (h .inv .labels)
 
-  pub labels-short : (m v l : ℕ) → labelOf v ((steps m (start bs source)) .settled) ≡ by v l → l ≤ maxLabel
+  pub labels-short : (m v l : ℕ) → labelOf v ((steps m (start bs source)) .settled) ≡ some l → l ≤ maxLabel
   unfolding reached
   labels-short m v l q = omega (arith, given .small, reached-few m, (labelled-at m v l q) .short)
 
-  pub labels-in : (m v l : ℕ) → labelOf v ((steps m (start bs source)) .settled) ≡ by v l → (1 ≤ v) × (v ≤ n)
+  pub labels-in : (m v l : ℕ) → labelOf v ((steps m (start bs source)) .settled) ≡ some l → (1 ≤ v) × (v ≤ n)
   labels-in m v l q = let h = labelled-at m v l q in (h .low, h .high)
 
   pub vertices-in : (m : ℕ) → Every (λ x. (1 ≤ x .vertex) × (x .vertex ≤ n)) ((steps m (start bs source)) .settled)
@@ -158,7 +159,7 @@ module _ (bs : List Block) (n source : ℕ) (given : Setting bs n source) where
       (λ b f. welcome n [] [] 0 source (unfold labelOf in refl) (omega arith) (freshBlock b) (record { fit = f; fine = fresh-fine b })) (given .fits)
 
   pub welcome-step : (m i s c : ℕ) → let st = steps m (start bs source) in let v = columnVertex (blockAt st i) c in
-      chosen st ≡ by i s → leastOf (blockAt st i) ≡ by c s → labelOf v (st .settled) ≡ nobody
+      chosen st ≡ by i s → leastOf (blockAt st i) ≡ by c s → labelOf v (st .settled) ≡ none
       → Every (Welcome v s) (set (st .blocks) i (apply (blockAt st i) extraction))
   unfolding steps advance extractFrom settle settleAs placeIn
   welcome-step m i s c q here h =

@@ -1,29 +1,31 @@
 -- The labelling of every accepted network: demand 2 and the count, each in full, with its argument.
 --   calls-done                    no call of the labelling is refused
 --   it-ends no-interval-left      in the end no block has an interval
---   labels-limited                a label is at most 25,499,745
+--   labels-limited held-limited   a label is at most 25,499,745
 --   labels-are-distances above-n  demand 2: each place of the label buffer
 --   reached-counts                the vertices reached
 --   few-extractions few-insertions   the counts
 --   every-block-a-trace           each block's model is that of a list of calls
 --   lent-network depot-accepted   a network in lent buffers; the depot example
 -- `Accepted n pieces source` says that no cause turns away the network of n vertices with these pieces, nor the source
--- (judgeBounds, judgePieces and judgeSource, the definitions by which the code judges, are 0).
+-- (judgeBounds, judgePiece and judgeSource, the definitions by which the code judges, are 0).
 use mathlib.Core.Path.{_≡_, refl}
 use mathlib.Core.Bool.{not}
 use mathlib.Core.List.{List, [], _∷_}
+use mathlib.Core.Logic.{_≢_}
+use mathlib.Core.Option.{some}
 use Prim.Native.Nat.{ℕ, suc, _*_, _≤_, _<_}
 use lib.Dec.{eqb}
 use lib.ListN.{getD, length}
 use Rattle.definitions.specs.Limits.{maxLabel, labelPlaces, unreached}
-use Rattle.definitions.specs.Lists.{all, every, mem, different, upFrom, downTo, within, firstCause}
-use Rattle.definitions.specs.Blocks.{splits, splitsOf, windows, windowsOf, rowsOf, columnsOf, corners, isMonge}
-use Rattle.definitions.specs.Model.{nobody, by, intervals}
-use Rattle.definitions.specs.Network.{Piece, entry, sizeOf, blockOf, blocksOf, blocks, passes, Distance, weight}
+use Rattle.definitions.specs.Lists.{count, all, every, mem, different, upFrom, downTo, within, firstCause}
+use Rattle.definitions.specs.Network.{Piece, entry, sizeOf, Distance}
+use Rattle.definitions.specs.Blocks.{splits, splitsOf, windows, windowsOf, rowsOf, columnsOf, corners, isMonge, blockOf, blocksOf, blocks, passes, weight}
+use Rattle.definitions.specs.Model.{nobody, intervals}
 use Rattle.definitions.specs.Labelling.{labelOf, chosen, steps, start, labelling, reached, extractions, insertions, labels}
-use Rattle.definitions.specs.Judgement.{judgeBounds, judgeSize, judgeVertices, judgeRow, judgeRows, judgeBlocks, judgeSource, judgePiece, judgePieces, piecesOf}
+use Rattle.definitions.specs.Judgement.{judgeBounds, judgeSize, judgeVertices, judgeRow, judgeRows, judgeBlocks, judgeSource, judgePiece, piecesOf}
 use Rattle.definitions.specs.Entries.{judgeLabelling}
-use Rattle.basics.specs.Lists.{Every, count}
+use Rattle.basics.specs.Lists.{Every}
 use Rattle.labelling_laws.specs.Acceptance.{Accepted}
 use Rattle.labelling_laws.specs.Ends as ends
 use Rattle.labelling_laws.specs.Loop.{chosen-none}
@@ -48,8 +50,12 @@ module _ (n : ℕ) (pieces : List Piece) (source : ℕ) (ok : Accepted n pieces 
   no-interval-left = chosen-none (labelling (blocks pieces) source) it-ends
 
   -- The k-th vertex settled has a label of at most (k - 1) × 99,999, and at most n ≤ 256 vertices are settled.
-  pub labels-limited : (v l : ℕ) → labelOf v ((labelling (blocks pieces) source) .settled) ≡ by v l → l ≤ maxLabel
+  pub labels-limited : (v l : ℕ) → labelOf v ((labelling (blocks pieces) source) .settled) ≡ some l → l ≤ maxLabel
   labels-limited = network.labels-limited n pieces source ok
+
+  -- the same of the label buffer: what is not 4,294,967,295 is a label
+  pub held-limited : (i : ℕ) → i < labelPlaces → getD (labels (labelling (blocks pieces) source)) i 0 ≢ unreached → getD (labels (labelling (blocks pieces) source)) i 0 ≤ maxLabel
+  held-limited = network.held-limited n pieces source ok
 
   -- Demand 2: place i holds the length of a shortest walk from the source to vertex i + 1, or 4,294,967,295 and there is no walk.
   -- A label is the length of a walk, that to the parent and one arc more. In the end every block with an activated row has all its
@@ -95,5 +101,5 @@ depot = record {
 
 depot-accepted : Accepted 5 depot 1
 unfolding depot all every mem different upFrom downTo within firstCause splits splitsOf windows windowsOf rowsOf columnsOf corners isMonge entry sizeOf blockOf blocksOf passes
-    judgeBounds judgeSize judgeVertices judgeRow judgeRows judgeBlocks judgeSource judgePiece judgePieces
-depot-accepted = record { bounds = refl; pieces-pass = refl; source-passes = refl }
+    judgeBounds judgeSize judgeVertices judgeRow judgeRows judgeBlocks judgeSource judgePiece
+depot-accepted = record { bounds = refl; pieces-pass = (refl, tt); source-passes = refl }

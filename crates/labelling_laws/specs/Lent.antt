@@ -1,51 +1,48 @@
 -- A network in lent buffers that the labelling accepts is an accepted network.
 --   piece-size         a piece has as many vertices as its size says
 --   lent-accepted
-use mathlib.Core.Path.{_≡_, refl}
-use mathlib.Core.Bool.{cond, _&&_}
+use mathlib.Core.Path.{_≡_}
+use mathlib.Core.Bool.{cond}
 use mathlib.Core.List.{List, [], _∷_, map}
 use Prim.Native.Nat.{ℕ, zero, suc, _+_, _*_, _≤_}
 use native.Mathlib.Omega.{arith}
-use borrow.Author.Tests.{eqb-true}
 use lib.ListN.{getD, length, drop, length-drop, length-map}
 use lib.Seq.{length-take-le}
-use Rattle.definitions.specs.Limits.{maxSize, sizePlaces, vertexPlaces, lengthPlaces, labelPlaces, rowPlaces}
+use Rattle.definitions.specs.Limits.{maxSize, labelPlaces, rowPlaces}
 use Rattle.definitions.specs.Lists.{upFrom}
 use Rattle.definitions.specs.Network.{Piece, sizeOf}
-use Rattle.definitions.specs.Judgement.{judgeBounds, judgeSource, judgePiece, judgePieces, pieceAt, piecesOf, judgeFrom, judgeNetwork}
-use Rattle.definitions.specs.Entries.{hasPlaces, judgeLabelling}
-use Rattle.basics.specs.Tests.{and-left, and-right}
+use Rattle.definitions.specs.Judgement.{judgeBounds, judgeSource, judgePiece, pieceAt, piecesOf, judgeFrom, judgeNetwork}
+use Rattle.definitions.specs.Entries.{hasPlaces, judgeBuffers, judgeLabelling}
+use Rattle.basics.specs.Lists.{Every}
 use Rattle.basics.specs.Sequences.{length-upFrom}
-use Rattle.labelling_laws.specs.Acceptance.{Accepted, no-cause, all-none, passed, size-passes, pieces-few}
+use Rattle.basics.specs.Causes.{no-cause, bounds-in, buffers-are}
+use Rattle.labelling_laws.specs.Acceptance.{Accepted, size-passes}
 
 module _ (n : ℕ) (sizes vertices lengths : List ℕ) where
   pub piece-size : (d : ℕ) → getD sizes d 0 ≤ maxSize → rowPlaces * d + maxSize ≤ length vertices → sizeOf (pieceAt sizes vertices lengths d) ≡ getD sizes d 0
   unfolding sizeOf pieceAt
   piece-size d l h = length-take-le (getD sizes d 0) (drop (rowPlaces * d) vertices) (simp length-drop (omega arith))
 
-  from-pass : (d k : ℕ) → rowPlaces * (d + k) ≤ length vertices → judgeFrom n sizes vertices lengths d k ≡ 0 → judgePieces n (map (pieceAt sizes vertices lengths) (upFrom d k)) ≡ 0
-  unfolding judgeFrom judgePieces upFrom
-  from-pass d zero h j = refl
+  from-pass : (d k : ℕ) → rowPlaces * (d + k) ≤ length vertices → judgeFrom n sizes vertices lengths d k ≡ 0
+      → Every (λ q. judgePiece n (sizeOf q) q ≡ 0) (map (pieceAt sizes vertices lengths) (upFrom d k))
+  unfolding judgeFrom upFrom
+  from-pass d zero h j = tt
   from-pass d (suc k) h j =
       let q : Piece = pieceAt sizes vertices lengths d in
       let p = no-cause (judgePiece n (getD sizes d 0) q ∷ judgeFrom n sizes vertices lengths (suc d) k ∷ []) j in
       let same : sizeOf q ≡ getD sizes d 0 = piece-size d (size-passes n (getD sizes d 0) q (p .0)) (omega arith) in
-      all-none (judgePiece n (sizeOf q) q ∷ judgePieces n (map (pieceAt sizes vertices lengths) (upFrom (suc d) k)) ∷ [])
-      (rw same (p .0), (from-pass (suc d) k (omega arith) (p .1 .0), tt))
+      (rw same (p .0), from-pass (suc d) k (omega arith) (p .1 .0))
 
 pub lent-accepted : (n p : ℕ) (sizes vertices lengths : List ℕ) (source : ℕ) (buffer : List ℕ) → judgeLabelling n p sizes vertices lengths source buffer ≡ 0
     → Accepted n (piecesOf p sizes vertices lengths) source
-unfolding judgeLabelling judgeNetwork hasPlaces piecesOf
+unfolding judgeLabelling judgeNetwork piecesOf
 lent-accepted n p sizes vertices lengths source buffer h =
-    let causes = no-cause (cond (hasPlaces sizePlaces sizes && (hasPlaces vertexPlaces vertices && (hasPlaces lengthPlaces lengths && hasPlaces labelPlaces buffer))) 0 1
-    ∷ judgeNetwork n p sizes vertices lengths ∷ judgeSource n source ∷ []) h in
-    let parts = no-cause (judgeBounds n p ∷ judgeFrom n sizes vertices lengths 0 p ∷ []) (causes .1 .0) in
-    let places : length vertices ≡ vertexPlaces = eqb-true (length vertices) vertexPlaces
-    (and-left (hasPlaces vertexPlaces vertices) (hasPlaces lengthPlaces lengths && hasPlaces labelPlaces buffer)
-    (and-right (hasPlaces sizePlaces sizes) (hasPlaces vertexPlaces vertices && (hasPlaces lengthPlaces lengths && hasPlaces labelPlaces buffer)) (passed _ 0 (causes .0)))) in
+    let causes = no-cause (cond (hasPlaces labelPlaces buffer) 0 1 ∷ judgeBuffers (length sizes) (length vertices) (length lengths) ∷ judgeNetwork n p sizes vertices lengths ∷ judgeSource n source ∷ []) h in
+    let parts = no-cause (judgeBounds n p ∷ judgeFrom n sizes vertices lengths 0 p ∷ []) (causes .1 .1 .0) in
+    let places = buffers-are (length sizes) (length vertices) (length lengths) (causes .1 .0) .1 in
     let count : length (map (pieceAt sizes vertices lengths) (upFrom 0 p)) ≡ p = simp (length-map, length-upFrom) in
     record {
       bounds = rw count (parts .0);
-      pieces-pass = from-pass n sizes vertices lengths 0 p (omega (arith, pieces-few n p (parts .0))) (parts .1 .0);
-      source-passes = causes .1 .1 .0;
+      pieces-pass = from-pass n sizes vertices lengths 0 p (omega (arith, places, bounds-in n p (parts .0) .1)) (parts .1 .0);
+      source-passes = causes .1 .1 .1 .0;
     }

@@ -6,6 +6,7 @@
 --   activate-block activate-extracted extract-length
 --   extracted-bound inserted-bound             how many columns, how many intervals
 use mathlib.Core.Path.{_≡_, refl, sym, ap, _∙_}
+use mathlib.Core.Option.{Option, none, some}
 use mathlib.Core.Bool.{true, false, cond, _||_}
 use mathlib.Core.List.{List, [], _∷_, _++_, append-nil}
 use Prim.Native.Nat.{ℕ, suc, _+_, _*_, _≤_, _<_}
@@ -16,9 +17,9 @@ use lib.Dec.{eqb}
 use lib.ListN.{getD, length, length-append}
 use Rattle.definitions.specs.Limits.{maxLength, maxLabel}
 use Rattle.definitions.specs.Lists.{mem}
-use Rattle.definitions.specs.Blocks.{Rectangle, Monge}
+use Rattle.definitions.specs.Network.{Rectangle}
+use Rattle.definitions.specs.Blocks.{Monge, Block}
 use Rattle.definitions.specs.Model.{Best, nobody, by, lesser, least, Activation, Model, through, parent, available, leastFrom, isActivated, judge, step, activate, extract, Trace, extend}
-use Rattle.definitions.specs.Network.{Block}
 use Rattle.definitions.specs.Labelling.{BlockState, activation, extraction, freshBlock, apply, leastOf, placeOf, activateAt, activateVertex, Settled, labelOf}
 use Rattle.basics.specs.Tests.{clash, Truth, holds, fails, truth, Equal, equal, differ, equality}
 use Rattle.basics.specs.Lists.{Every, every-snoc, Different, mem-snoc}
@@ -42,7 +43,7 @@ pub record Fit (n : ℕ) (b : Block) : Type 0 where
 -- a vertex has a label, at most `level` and at most the least sum x
 pub record Reached (xs : List Settled) (level v : ℕ) (x : Best) : Type 0 where
   pub label : ℕ
-  pub is : labelOf v xs ≡ by v label
+  pub is : labelOf v xs ≡ some label
   pub near : label ≤ level
   pub least : From label x
 
@@ -74,7 +75,7 @@ fresh-fine b = record {
 
 -- more is settled, and sums have grown
 pub later : (b : Block) (old xs ys : List Settled) (level level′ : ℕ) (t : Trace) → level ≤ level′
-    → ((v l : ℕ) → labelOf v xs ≡ by v l → labelOf v ys ≡ by v l)
+    → ((v l : ℕ) → labelOf v xs ≡ some l → labelOf v ys ≡ some l)
     → ((c : ℕ) → c < length (b .cols) → From level′ (available (b .lengths) (t .model) c))
     → Fine b old xs level t → Fine b old ys level′ t
 later b old xs ys level level′ t l mono from f = record {
@@ -132,7 +133,7 @@ module _ (b : Block) (monge : Monge (b .lengths) (length (b .rows)) (length (b .
 
   -- a column of least sum `level` is extracted, and its vertex has a label
   extract-fine : (c : ℕ) → leastFrom (available e m) 0 (length (b .cols)) ≡ by c level
-      → (l : ℕ) → labelOf (getD (b .cols) c 0) xs ≡ by (getD (b .cols) c 0) l → l ≤ level
+      → (l : ℕ) → labelOf (getD (b .cols) c 0) xs ≡ some l → l ≤ level
       → Fine b old xs level (extend e (length (b .rows)) (length (b .cols)) t extraction)
   unfolding extend extract
   extract-fine c here l label near =
@@ -180,20 +181,20 @@ same-rows b old now xs level t q f = record {
 
 -- no activation of a vertex with the label l is refused
 abbrev pub Welcome : ℕ → ℕ → BlockState → Type 0
-Welcome v l s = (r z : ℕ) → placeOf v 0 (s .block .rows) ≡ by r z → judge (length (s .block .rows)) (s .trace .model) (activation r l) ≡ 0
+Welcome v l s = (r : ℕ) → placeOf v 0 (s .block .rows) ≡ some r → judge (length (s .block .rows)) (s .trace .model) (activation r l) ≡ 0
 
 module _ (n : ℕ) (old xs : List Settled) (level : ℕ) where
-  fresh-row : (v : ℕ) → labelOf v old ≡ nobody → (s : BlockState) → Good n old xs level s → (r z : ℕ) → placeOf v 0 (s .block .rows) ≡ by r z
+  fresh-row : (v : ℕ) → labelOf v old ≡ none → (s : BlockState) → Good n old xs level s → (r : ℕ) → placeOf v 0 (s .block .rows) ≡ some r
       → isActivated r (s .trace .model .activated) ≡ false
-  fresh-row v no-label s h r z p = rw (h .fine .rows-are) (not-activated (s .block .rows) v r z old no-label p)
+  fresh-row v no-label s h r p = rw (h .fine .rows-are) (not-activated (s .block .rows) v r old no-label p)
 
-  pub welcome : (v : ℕ) → labelOf v old ≡ nobody → level ≤ maxLabel → (s : BlockState) → Good n old xs level s → Welcome v level s
+  pub welcome : (v : ℕ) → labelOf v old ≡ none → level ≤ maxLabel → (s : BlockState) → Good n old xs level s → Welcome v level s
   unfolding judge
-  welcome v no-label top s h r z p =
-      let i = place-in v (s .block .rows) r z p in
-      simp (lt-leb (length (s .block .rows)) r (i .0), fresh-row v no-label s h r z p, le-ltb maxLabel level top, le-ltb level (s .trace .model .floor) (h .fine .floor))
+  welcome v no-label top s h r p =
+      let i = place-in v (s .block .rows) r p in
+      simp (lt-leb (length (s .block .rows)) r (i .0), fresh-row v no-label s h r p, le-ltb maxLabel level top, le-ltb level (s .trace .model .floor) (h .fine .floor))
 
-  pub activate-good : (v : ℕ) → labelOf v old ≡ nobody → level ≤ maxLabel
+  pub activate-good : (v : ℕ) → labelOf v old ≡ none → level ≤ maxLabel
       → (s : BlockState) → Good n old xs level s → Good n (old ++ record { vertex = v; label = level } ∷ []) xs level (activateVertex v level s)
   unfolding activateVertex activateAt apply activatedOne
   activate-good v no-label top s h = go (placeOf v 0 (b .rows)) refl
@@ -204,18 +205,18 @@ module _ (n : ℕ) (old xs : List Settled) (level : ℕ) where
       now : List Settled
       now = old ++ record { vertex = v; label = level } ∷ []
 
-      go : (y : Best) → placeOf v 0 (b .rows) ≡ y → Good n now xs level (activateAt y level s)
-      go nobody p = record {
+      go : (y : Option ℕ) → placeOf v 0 (b .rows) ≡ y → Good n now xs level (activateAt y level s)
+      go none p = record {
         fit = h .fit;
         fine = same-rows b old now xs level (s .trace) (activatedBy-snoc (b .rows) old _ ∙ rw p (append-nil (activatedBy (b .rows) old))) (h .fine);
       }
-      go (by r z) p = record {
+      go (some r) p = record {
         fit = h .fit;
-        fine = activate-fine b (h .fit .monge) old xs level (s .trace) (h .fine) r ((place-in v (b .rows) r z p) .0) (fresh-row v no-label s h r z p) top now (activatedBy-snoc (b .rows) old _ ∙ rw p);
+        fine = activate-fine b (h .fit .monge) old xs level (s .trace) (h .fine) r ((place-in v (b .rows) r p) .0) (fresh-row v no-label s h r p) top now (activatedBy-snoc (b .rows) old _ ∙ rw p);
       }
 
   pub extract-good : (s : BlockState) (c : ℕ) → leastOf s ≡ by c level
-      → (l : ℕ) → labelOf (getD (s .block .cols) c 0) xs ≡ by (getD (s .block .cols) c 0) l → l ≤ level
+      → (l : ℕ) → labelOf (getD (s .block .cols) c 0) xs ≡ some l → l ≤ level
       → Good n old xs level s → Good n old xs level (apply s extraction)
   unfolding leastOf apply
   extract-good s c here l label near h = record {
@@ -237,9 +238,9 @@ pub activate-block : (v l : ℕ) (s : BlockState) → (activateVertex v l s) .bl
 unfolding activateVertex activateAt apply
 activate-block v l s = go (placeOf v 0 (s .block .rows))
   where
-    go : (y : Best) → (activateAt y l s) .block ≡ s .block
-    go nobody = refl
-    go (by r z) = refl
+    go : (y : Option ℕ) → (activateAt y l s) .block ≡ s .block
+    go none = refl
+    go (some r) = refl
 
 pub activate-extracted : (v l : ℕ) (s : BlockState) → length ((activateVertex v l s) .trace .model .extracted) ≡ length (s .trace .model .extracted)
 unfolding activateVertex activateAt apply extend step activate
@@ -250,9 +251,9 @@ activate-extracted v l s = go (placeOf v 0 (s .block .rows))
     one r (holds t) = simp t
     one r (fails t) = simp t
 
-    go : (y : Best) → length ((activateAt y l s) .trace .model .extracted) ≡ length (s .trace .model .extracted)
-    go nobody = refl
-    go (by r z) = one r (truth (eqb (judge (length (s .block .rows)) (s .trace .model) (activation r l)) 0))
+    go : (y : Option ℕ) → length ((activateAt y l s) .trace .model .extracted) ≡ length (s .trace .model .extracted)
+    go none = refl
+    go (some r) = one r (truth (eqb (judge (length (s .block .rows)) (s .trace .model) (activation r l)) 0))
 
 pub extract-length : (s : BlockState) (c l : ℕ) → leastOf s ≡ by c l → length ((apply s extraction) .trace .model .extracted) ≡ suc (length (s .trace .model .extracted))
 unfolding leastOf apply extend extract

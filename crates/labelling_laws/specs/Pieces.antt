@@ -4,6 +4,7 @@
 --   extractions-weight insertions-weight    the counts, against the sum over the pieces
 --   reached-count                           the vertices reached are the places that hold a label
 use mathlib.Core.Path.{_≡_, refl, sym, _∙_}
+use mathlib.Core.Option.{none, some}
 use mathlib.Core.Bool.{not}
 use mathlib.Core.List.{List, [], _∷_, map}
 use mathlib.Core.Logic.{_≢_}
@@ -13,17 +14,18 @@ use borrow.Author.Tests.{eq-eqb, ne-eqb}
 use lib.Dec.{eqb}
 use lib.ListN.{getD, length, length-map}
 use Rattle.definitions.specs.Limits.{maxLabel, labelPlaces, unreached}
-use Rattle.definitions.specs.Lists.{mem}
-use Rattle.definitions.specs.Model.{nobody, by}
-use Rattle.definitions.specs.Network.{Piece, blocks, Distance, distance, none, weight}
-use Rattle.definitions.specs.Labelling.{Settled, State, labelOf, columns, labelling, reached, extractions, insertions, metresOf, labels}
+use Rattle.definitions.specs.Lists.{count, mem}
+use Rattle.definitions.specs.Network.{Piece, Distance, distance, none}
+use Rattle.definitions.specs.Blocks.{blocks, weight}
+use Rattle.definitions.specs.Labelling.{Settled, State, labelOf, columns, labelling, reached, extractions, insertions, heldLabel, labels}
 use Rattle.basics.specs.Tests.{Equal, equal, differ, equality}
-use Rattle.basics.specs.Lists.{Every, every-map, Different, count, counted, count-same}
+use Rattle.basics.specs.Lists.{Every, every-map, Different, counted, count-same}
+use Rattle.basics.specs.Causes.{bounds-in, source-in}
 use Rattle.labelling_laws.specs.Labels.{Status, settled, unsettled, status, labelled-mem, unlabelled}
 use Rattle.labelling_laws.specs.Steps.{Setting}
 use Rattle.labelling_laws.specs.Ends.{labels-short, labels-in, vertices-in, vertices-differ, extractions-bound, insertions-bound}
 use Rattle.labelling_laws.specs.Exact.{BlockDistance, labels-exact}
-use Rattle.labelling_laws.specs.Acceptance.{Accepted, Suits, suits, vertices-few, source-in}
+use Rattle.labelling_laws.specs.Acceptance.{Accepted, Suits, suits}
 use Rattle.labelling_laws.specs.Arcs.{blocks-fit, walk-to-blocks, walk-to-pieces, all-rows, all-cols, rows-cols}
 use Rattle.labelling_laws.specs.Loop.{labels-at}
 
@@ -54,7 +56,7 @@ module _ (n : ℕ) (pieces : List Piece) (source : ℕ) (ok : Accepted n pieces 
 
   pub setting : Setting (blocks pieces) n source
   setting = record {
-    small = vertices-few n (length pieces) (ok .bounds);
+    small = bounds-in n (length pieces) (ok .bounds) .0;
     fits = blocks-fit n pieces suited;
     low = (source-in n source (ok .source-passes)) .0;
     high = (source-in n source (ok .source-passes)) .1;
@@ -65,29 +67,37 @@ module _ (n : ℕ) (pieces : List Piece) (source : ℕ) (ok : Accepted n pieces 
 
   -- ---- labels
 
-  pub labels-limited : (v l : ℕ) → labelOf v ((labelling (blocks pieces) source) .settled) ≡ by v l → l ≤ maxLabel
+  pub labels-limited : (v l : ℕ) → labelOf v ((labelling (blocks pieces) source) .settled) ≡ some l → l ≤ maxLabel
   unfolding labelling
   labels-limited v l h = labels-short (blocks pieces) n source setting (columns (blocks pieces)) v l h
 
+  pub held-limited : (i : ℕ) → i < labelPlaces → getD (labels (labelling (blocks pieces) source)) i 0 ≢ unreached → getD (labels (labelling (blocks pieces) source)) i 0 ≤ maxLabel
+  unfolding heldLabel
+  held-limited i l h = rw (labels-at last i l) (go (status (suc i) (last .settled)))
+    where
+      go : Status (suc i) (last .settled) → heldLabel (labelOf (suc i) (last .settled)) ≤ maxLabel
+      go (settled k e) = rw e (labels-limited (suc i) k e)
+      go (unsettled e) = absurd (h (labels-at last i l ∙ rw e))
+
   pub label-distance : (i : ℕ) → i < labelPlaces → Distance pieces source (suc i) (getD (labels (labelling (blocks pieces) source)) i 0)
-  unfolding metresOf
+  unfolding heldLabel
   label-distance i l = rw (labels-at last i l) (go (status (suc i) (last .settled)) (labels-exact (blocks pieces) n source setting (suc i)))
     where
       go : Status (suc i) (last .settled) → BlockDistance (blocks pieces) source (suc i) (labelOf (suc i) (last .settled))
-          → Distance pieces source (suc i) (metresOf (labelOf (suc i) (last .settled)))
+          → Distance pieces source (suc i) (heldLabel (labelOf (suc i) (last .settled)))
       go (settled l h) d =
-          let e : BlockDistance (blocks pieces) source (suc i) (by (suc i) l) = rw h at d in
+          let e : BlockDistance (blocks pieces) source (suc i) (some l) = rw h at d in
           rw h (distance l (omega (arith, labels-limited (suc i) l h))
           (record { some = walk-to-pieces n pieces suited (e .0); least = λ k p. e .1 k (walk-to-blocks n pieces suited p) }))
       go (unsettled h) d =
-          let e : BlockDistance (blocks pieces) source (suc i) nobody = rw h at d in
+          let e : BlockDistance (blocks pieces) source (suc i) none = rw h at d in
           rw h (none (λ k p. e k (walk-to-blocks n pieces suited p)))
 
   pub above-n : (i : ℕ) → n ≤ i → i < labelPlaces → getD (labels (labelling (blocks pieces) source)) i 0 ≡ unreached
-  unfolding labelling metresOf
+  unfolding labelling heldLabel
   above-n i m l = rw (labels-at last i l) (go (status (suc i) (last .settled)))
     where
-      go : Status (suc i) (last .settled) → metresOf (labelOf (suc i) (last .settled)) ≡ unreached
+      go : Status (suc i) (last .settled) → heldLabel (labelOf (suc i) (last .settled)) ≡ unreached
       go (settled l h) = absurd (omega (arith, labels-in (blocks pieces) n source setting (columns (blocks pieces)) (suc i) l h))
       go (unsettled h) = rw h
 
@@ -108,7 +118,7 @@ module _ (n : ℕ) (pieces : List Piece) (source : ℕ) (ok : Accepted n pieces 
   )
 
   pub reached-count : reached (labelling (blocks pieces) source) ≡ count (λ i. not (eqb (getD (labels (labelling (blocks pieces) source)) i 0) unreached)) labelPlaces
-  unfolding labelling reached metresOf placesOf
+  unfolding labelling reached heldLabel placesOf
   reached-count =
       let inside = vertices-in (blocks pieces) n source setting (columns (blocks pieces)) in
       let m : length (placesOf xs) ≡ length xs = simp length-map in
@@ -121,7 +131,7 @@ module _ (n : ℕ) (pieces : List Piece) (source : ℕ) (ok : Accepted n pieces 
       xs : List Settled
       xs = last .settled
 
-      test : (i : ℕ) → i < labelPlaces → Status (suc i) xs → mem (suc i) (map (λ x. x .vertex) xs) ≡ not (eqb (metresOf (labelOf (suc i) xs)) unreached)
+      test : (i : ℕ) → i < labelPlaces → Status (suc i) xs → mem (suc i) (map (λ x. x .vertex) xs) ≡ not (eqb (heldLabel (labelOf (suc i) xs)) unreached)
       test i l (settled k h) =
           let q : k ≢ unreached = omega (arith, labels-limited (suc i) k h) in
           labelled-mem (suc i) k xs h ∙ rw (h, ne-eqb k unreached q)

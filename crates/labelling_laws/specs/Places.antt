@@ -3,17 +3,16 @@
 --   place-in place-of                                  the place of a vertex
 --   different-at                                       places of a list of different numbers
 use mathlib.Core.Path.{_≡_, refl, sym, ap, _∙_}
-use mathlib.Core.Bool.{true, false, or-true}
-use mathlib.Core.List.{List, [], _∷_, map}
+use mathlib.Core.Option.{Option, none, some}
+use mathlib.Core.Bool.{false}
+use mathlib.Core.List.{List, [], _∷_}
 use mathlib.Core.Logic.{_≢_}
 use Prim.Native.Nat.{ℕ, zero, suc, _+_, _-_, _<_}
 use native.Mathlib.Nat.{add-zero, zero-add}
 use native.Mathlib.Omega.{arith}
 use borrow.Author.Tests.{eq-eqb, ne-eqb}
-use lib.Dec.{eqb}
 use lib.ListN.{getD, length}
-use Rattle.definitions.specs.Lists.{mem, upFrom, downTo}
-use Rattle.definitions.specs.Model.{Best, nobody, by}
+use Rattle.definitions.specs.Lists.{mem}
 use Rattle.definitions.specs.Labelling.{placeOf}
 use Rattle.basics.specs.Tests.{clash, Equal, equal, differ, equality}
 use Rattle.basics.specs.Lists.{Every, Different}
@@ -27,26 +26,26 @@ at-place P d (x ∷ xs) p h (suc i) = at-place P d xs p (h .1) i
 
 -- ---- the place of a vertex
 
-abbrev Placed : ℕ → ℕ → List ℕ → Best → Type 0
-Placed v i xs nobody = Unit {0}
-Placed v i xs (by r z) = (k : ℕ) × (r ≡ i + k) × (k < length xs) × (getD xs k 0 ≡ v)
+abbrev Placed : ℕ → ℕ → List ℕ → Option ℕ → Type 0
+Placed v i xs none = Unit {0}
+Placed v i xs (some r) = (k : ℕ) × (r ≡ i + k) × (k < length xs) × (getD xs k 0 ≡ v)
 
 placed : (v i : ℕ) (xs : List ℕ) → Placed v i xs (placeOf v i xs)
 unfolding placeOf
 placed v i [] = tt
 placed v i (x ∷ xs) = go (equality v x) (placed v (suc i) xs)
   where
-    later : (y : Best) → Placed v (suc i) xs y → Placed v i (x ∷ xs) y
-    later nobody h = tt
-    later (by r z) h = (suc (h .0), omega arith, omega arith, h .3)
+    later : (y : Option ℕ) → Placed v (suc i) xs y → Placed v i (x ∷ xs) y
+    later none h = tt
+    later (some r) h = (suc (h .0), omega arith, omega arith, h .3)
 
     go : Equal v x → Placed v (suc i) xs (placeOf v (suc i) xs) → Placed v i (x ∷ xs) (placeOf v i (x ∷ xs))
     go (equal t q) h = simp t (0, omega arith, omega arith, sym q)
     go (differ t q) h = simp t (later (placeOf v (suc i) xs) h)
 
-pub place-in : (v : ℕ) (xs : List ℕ) (r z : ℕ) → placeOf v 0 xs ≡ by r z → (r < length xs) × (getD xs r 0 ≡ v)
-place-in v xs r z h =
-    let p : Placed v 0 xs (by r z) = rw h at (placed v 0 xs) in
+pub place-in : (v : ℕ) (xs : List ℕ) (r : ℕ) → placeOf v 0 xs ≡ some r → (r < length xs) × (getD xs r 0 ≡ v)
+place-in v xs r h =
+    let p : Placed v 0 xs (some r) = rw h at (placed v 0 xs) in
     let q : r ≡ p .0 = omega arith in
     (omega arith, rw q (p .3))
 
@@ -54,15 +53,15 @@ place-in v xs r z h =
 not-head : (x : ℕ) (xs : List ℕ) → mem x xs ≡ false → (i : ℕ) → i < length xs → getD xs i 0 ≢ x
 not-head x xs h i l = λ q. clash (mem-at xs i l) (rw q h)
 
-place-from : (xs : List ℕ) → Different xs → (i k : ℕ) → k < length xs → placeOf (getD xs k 0) i xs ≡ by (i + k) 0
+place-from : (xs : List ℕ) → Different xs → (i k : ℕ) → k < length xs → placeOf (getD xs k 0) i xs ≡ some (i + k)
 unfolding placeOf
 place-from [] d i k l = absurd (omega arith)
 place-from (x ∷ xs) d i zero l = simp (eq-eqb x x refl, add-zero)
 place-from (x ∷ xs) d i (suc k) l =
     let q : suc i + k ≡ i + suc k = omega arith in
-    simp (ne-eqb (getD xs k 0) x (not-head x xs (d .0) k (omega arith))) (place-from xs (d .1) (suc i) k (omega arith) ∙ ap (λ (n : ℕ). by n 0) q)
+    simp (ne-eqb (getD xs k 0) x (not-head x xs (d .0) k (omega arith))) (place-from xs (d .1) (suc i) k (omega arith) ∙ ap some q)
 
-pub place-of : (xs : List ℕ) → Different xs → (k : ℕ) → k < length xs → placeOf (getD xs k 0) 0 xs ≡ by k 0
+pub place-of : (xs : List ℕ) → Different xs → (k : ℕ) → k < length xs → placeOf (getD xs k 0) 0 xs ≡ some k
 place-of xs d k l = rw zero-add at (place-from xs d 0 k l)
 
 -- two places of a list of different numbers

@@ -5,6 +5,7 @@
 --   Setting Holds steps-hold          the invariant holds after every step
 -- `level` is the last sum handed out, at first 0.
 use mathlib.Core.Path.{_≡_, refl, _∙_}
+use mathlib.Core.Option.{Option, none, some}
 use mathlib.Core.Bool.{false}
 use mathlib.Core.List.{List, [], _∷_, _++_, map}
 use mathlib.Core.Logic.{_≢_}
@@ -16,9 +17,9 @@ use lib.ListN.{getD, length, set, length-append, length-map, List·getD-map}
 use lib.Seq.{map-set-same}
 use Rattle.definitions.specs.Limits.{maxVertices, maxLength, maxLabel, sum}
 use Rattle.definitions.specs.Lists.{mem}
-use Rattle.definitions.specs.Blocks.{Rectangle}
+use Rattle.definitions.specs.Network.{Rectangle, Walk, stay, then}
+use Rattle.definitions.specs.Blocks.{Block, noBlock}
 use Rattle.definitions.specs.Model.{Best, nobody, by, least, Model, parent, available, leastFrom}
-use Rattle.definitions.specs.Network.{Block, noBlock, Walk, stay, then}
 use Rattle.definitions.specs.Labelling.{BlockState, extraction, freshBlock, apply, leastOf, activateVertex, Settled, State, labelOf, settleAs, settle, noBlockState, chosen, placeIn, extractFrom, advance, steps, start}
 use Rattle.basics.specs.Lists.{Every, every-at, every-set, every-snoc, every-imp, every-map, every-all, map-same, map-back, Different, different-snoc, at-most}
 use Rattle.heap_laws.specs.Least.{From, from-le}
@@ -94,13 +95,13 @@ module _ (bs : List Block) (n source : ℕ) where
 
   module _ (small : n ≤ maxVertices) where
     -- a vertex that is not yet settled is settled, and activated
-    settle-inv : (st : State) (v l : ℕ) → labelOf v (st .settled) ≡ nobody
+    settle-inv : (st : State) (v l : ℕ) → labelOf v (st .settled) ≡ none
         → map (λ s. s .block) (st .blocks) ≡ bs
         → Every (Good n (st .settled) (st .settled ++ record { vertex = v; label = l } ∷ []) l) (st .blocks)
         → Every (λ x. Labelled l (length (st .settled)) (x .vertex) (x .label)) (st .settled)
         → Different (map (λ x. x .vertex) (st .settled))
         → Labelled l (suc (length (st .settled))) v l
-        → Inv (settleAs nobody v l st) l
+        → Inv (settleAs none v l st) l
     unfolding settleAs
     settle-inv st v l no-label same good ls diff one =
         let old : List Settled = st .settled in
@@ -148,7 +149,7 @@ module _ (bs : List Block) (n source : ℕ) where
         let arc : BlockArc bs (getD (here .block .rows) p 0) (columnVertex here c) (e p c) = record {
           number = i;
           number-in = rw (← inv .blocks-are) (simp length-map (omega (arith, top .high)));
-          arc = rw (block-at st i (inv .blocks-are)) (record { row = p; col = c; row-in = row-in; col-in = col-in; tail = refl; head = refl; metres = refl });
+          arc = rw (block-at st i (inv .blocks-are)) (record { row = p; col = c; row-in = row-in; col-in = col-in; tail = refl; head = refl; length-is = refl });
         } in
         record {
           number-in = omega (arith, top .high);
@@ -167,7 +168,7 @@ module _ (bs : List Block) (n source : ℕ) where
 
     -- all sums have reached s, and more may be settled
     raised : (st : State) (level i s : ℕ) (now : List Settled) → Inv st level → Choice st level i s
-        → ((v l : ℕ) → labelOf v (st .settled) ≡ by v l → labelOf v now ≡ by v l) → Every (Good n (st .settled) now s) (st .blocks)
+        → ((v l : ℕ) → labelOf v (st .settled) ≡ some l → labelOf v now ≡ some l) → Every (Good n (st .settled) now s) (st .blocks)
     unfolding leastOf
     raised st level i s now inv ch mono = every-all (Good n (st .settled) now s) (st .blocks) noBlockState
         (λ j l. one (blockAt st j) (ch .beyond j l) (every-at _ (st .blocks) (inv .good) j noBlockState l))
@@ -187,7 +188,7 @@ module _ (bs : List Block) (n source : ℕ) where
     same-blocks st i = map-set-same (λ (s : BlockState). s .block) (st .blocks) i (apply (blockAt st i) extraction) noBlockState refl
 
     -- after the extraction and before the activations of a step
-    pub between : (st : State) (level i s : ℕ) → Inv st level → (ch : Choice st level i s) → (v : ℕ) → columnVertex (blockAt st i) (ch .col) ≡ v → labelOf v (st .settled) ≡ nobody
+    pub between : (st : State) (level i s : ℕ) → Inv st level → (ch : Choice st level i s) → (v : ℕ) → columnVertex (blockAt st i) (ch .col) ≡ v → labelOf v (st .settled) ≡ none
         → Every (Good n (st .settled) (st .settled ++ record { vertex = v; label = s } ∷ []) s) (set (st .blocks) i (apply (blockAt st i) extraction))
     between st level i s inv ch v z h =
         let now : List Settled = st .settled ++ record { vertex = v; label = s } ∷ [] in
@@ -238,20 +239,20 @@ module _ (bs : List Block) (n source : ℕ) where
 
   -- ---- a label stays
 
-  keeps : (v l u w : ℕ) (st : State) → labelOf v (st .settled) ≡ by v l → labelOf v ((settle u w st) .settled) ≡ by v l
+  keeps : (v l u w : ℕ) (st : State) → labelOf v (st .settled) ≡ some l → labelOf v ((settle u w st) .settled) ≡ some l
   unfolding settle settleAs
   keeps v l u w st q = go (labelOf u (st .settled))
     where
-      go : (x : Best) → labelOf v ((settleAs x u w st) .settled) ≡ by v l
-      go nobody = label-old v (st .settled) _ l q
-      go (by r s) = q
+      go : (x : Option ℕ) → labelOf v ((settleAs x u w st) .settled) ≡ some l
+      go none = label-old v (st .settled) _ l q
+      go (some l′) = q
 
-  keeps-extract : (v l : ℕ) (x : Best) (st : State) → labelOf v (st .settled) ≡ by v l → labelOf v ((extractFrom x st) .settled) ≡ by v l
+  keeps-extract : (v l : ℕ) (x : Best) (st : State) → labelOf v (st .settled) ≡ some l → labelOf v ((extractFrom x st) .settled) ≡ some l
   unfolding extractFrom
   keeps-extract v l nobody st q = q
   keeps-extract v l (by i s) st q = keeps v l _ s _ q
 
-  begun : (m : ℕ) → labelOf source ((steps m (start bs source)) .settled) ≡ by source 0
+  begun : (m : ℕ) → labelOf source ((steps m (start bs source)) .settled) ≡ some 0
   unfolding steps advance start
   begun zero = unfold settle labelOf settleAs in simp (eq-eqb source source refl)
   begun (suc m) = keeps-extract source 0 (chosen (steps m (start bs source))) (steps m (start bs source)) (begun m)
@@ -261,7 +262,7 @@ module _ (bs : List Block) (n source : ℕ) where
   pub record Holds (st : State) : Type 0 where
     pub level : ℕ
     pub inv : Inv st level
-    pub begins : labelOf source (st .settled) ≡ by source 0
+    pub begins : labelOf source (st .settled) ≡ some 0
 
   -- what is asked of the blocks and of the source
   pub record Setting : Type 0 where

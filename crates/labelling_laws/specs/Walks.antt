@@ -5,7 +5,8 @@ use mathlib.Core.Path.{_≡_}
 use mathlib.Core.List.{List}
 use Prim.Native.Nat.{ℕ, _<_}
 use lib.ListN.{getD, length}
-use Rattle.definitions.specs.Network.{Block, noBlock, Walk, stay, then}
+use Rattle.definitions.specs.Network.{Walk, stay, then}
+use Rattle.definitions.specs.Blocks.{Block, noBlock}
 
 pub record ArcOf (b : Block) (u v l : ℕ) : Type 0 where
   pub row : ℕ
@@ -14,7 +15,7 @@ pub record ArcOf (b : Block) (u v l : ℕ) : Type 0 where
   pub col-in : col < length (b .cols)
   pub tail : getD (b .rows) row 0 ≡ u
   pub head : getD (b .cols) col 0 ≡ v
-  pub metres : b .lengths row col ≡ l
+  pub length-is : b .lengths row col ≡ l
 
 -- an arc of one of the blocks
 pub record BlockArc (bs : List Block) (u v l : ℕ) : Type 0 where

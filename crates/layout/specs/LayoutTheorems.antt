@@ -11,13 +11,13 @@
 use mathlib.Core.Path.{_≡_, _∙_}
 use mathlib.Core.Logic.{_⊎_, _≢_}
 use mathlib.Core.List.{List}
+use mathlib.Core.Option.{none, some}
 use Prim.Native.Nat.{ℕ, suc, pred, _+_, _-_, _*_, _/_, _≤_, _<_}
 use native.Mathlib.Omega.{arith}
 use lib.ListN.{getD, length, take}
 use Rattle.definitions.specs.Limits.{maxVertices, maxSize, rowPlaces, vertexPlaces}
-use Rattle.definitions.specs.Blocks.{Window, windowsOf}
-use Rattle.definitions.specs.Model.{nobody, by}
-use Rattle.definitions.specs.Network.{Piece, sizeOf, Block, noBlock, blockOf, blocks, noPiece}
+use Rattle.definitions.specs.Network.{Piece, sizeOf, noPiece}
+use Rattle.definitions.specs.Blocks.{Window, windowsOf, Block, noBlock, blockOf, blocks}
 use Rattle.definitions.specs.Labelling.{placeOf}
 use Rattle.definitions.specs.Judgement.{pieceAt, piecesOf}
 use Rattle.basics.specs.Lists.{Different}
@@ -141,19 +141,19 @@ module _ (ws : List Window) (s start k : ℕ) (h : Stretch ws s start k) (l : 2 
 module _ (q : Piece) (w : Window) (inside : w .row0 + w .rows ≤ sizeOf q) where
   -- a vertex at place i of the piece
   its-row : Different (q .vertices) → (v i : ℕ) → i < sizeOf q → getD (q .vertices) i 0 ≡ v → w .row0 ≤ i → i < w .row0 + w .rows
-      → placeOf v 0 (blockOf q w .rows) ≡ by (i - w .row0) 0
+      → placeOf v 0 (blockOf q w .rows) ≡ some (i - w .row0)
   its-row = row-inside q w inside
 
   no-row : Different (q .vertices) → (v i : ℕ) → i < sizeOf q → getD (q .vertices) i 0 ≡ v → (i < w .row0) ⊎ (w .row0 + w .rows ≤ i)
-      → placeOf v 0 (blockOf q w .rows) ≡ nobody
+      → placeOf v 0 (blockOf q w .rows) ≡ none
   no-row = row-outside q w inside
 
   -- a vertex that the piece does not have
-  no-vertex : (v : ℕ) → ((i : ℕ) → i < sizeOf q → getD (q .vertices) i 0 ≢ v) → placeOf v 0 (blockOf q w .rows) ≡ nobody
+  no-vertex : (v : ℕ) → ((i : ℕ) → i < sizeOf q → getD (q .vertices) i 0 ≢ v) → placeOf v 0 (blockOf q w .rows) ≡ none
   no-vertex = row-absent q w inside
 
 -- A place outside a stretch is a row of none of its blocks.
 elsewhere : (q : Piece) (s start k : ℕ) → sizeOf q ≤ maxSize → Stretch (windowsOf (sizeOf q)) s start k → Different (q .vertices)
     → (v i : ℕ) → i < sizeOf q → getD (q .vertices) i 0 ≡ v → (i < start) ⊎ (start + k ≤ i)
-    → (j : ℕ) → j < 2 * pred k → placeOf v 0 (blockOf q (getD (windowsOf (sizeOf q)) (s + j) noWindow) .rows) ≡ nobody
+    → (j : ℕ) → j < 2 * pred k → placeOf v 0 (blockOf q (getD (windowsOf (sizeOf q)) (s + j) noWindow) .rows) ≡ none
 elsewhere = row-elsewhere

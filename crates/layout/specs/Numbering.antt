@@ -17,8 +17,8 @@ use lib.ListN.{getD, length, take, drop, length-append, length-drop, length-map,
 use lib.Seq.{length-take-le, getD-append-add}
 use Rattle.definitions.specs.Limits.{maxPieces, maxSize, vertexPlaces, lengthPlaces, rowPlaces}
 use Rattle.definitions.specs.Lists.{upFrom}
-use Rattle.definitions.specs.Blocks.{splits, splitsOf, Window, windows, windowsOf}
-use Rattle.definitions.specs.Network.{Piece, sizeOf, Block, blockOf, blocksOf, blocks}
+use Rattle.definitions.specs.Network.{Piece, sizeOf}
+use Rattle.definitions.specs.Blocks.{splits, splitsOf, Window, windows, windowsOf, Block, blockOf, blocksOf, blocks}
 use Rattle.definitions.specs.Judgement.{pieceAt, piecesOf}
 use Rattle.basics.specs.Tests.{split-at}
 use Rattle.basics.specs.Sequences.{getD-each, map-at}

@@ -19,8 +19,8 @@ use lib.ListN.{getD, length, take, drop, length-map, List·getD-append}
 use lib.Seq.{getD-append-add, take-suc, take-add, take-length, drop-drop}
 use Rattle.definitions.specs.Limits.{maxPieces, maxSize, vertexPlaces, rowPlaces, tablePlaces}
 use Rattle.definitions.specs.Lists.{all, every, total, upFrom, downTo, padded}
-use Rattle.definitions.specs.Blocks.{Window, splits, splitsOf, windows, windowsOf, rowsOf, columnsOf}
-use Rattle.definitions.specs.Network.{Piece, noBlock, blockOf, blocks, noPiece}
+use Rattle.definitions.specs.Network.{Piece, noPiece}
+use Rattle.definitions.specs.Blocks.{Window, splits, splitsOf, windows, windowsOf, rowsOf, columnsOf, noBlock, blockOf, blocks}
 use Rattle.definitions.specs.Judgement.{pieceAt, piecesOf}
 use Rattle.basics.specs.Tests.{split-at}
 use Rattle.basics.specs.Lists.{all-at, Every, every-is, every-at, length-padded}

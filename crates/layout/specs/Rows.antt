@@ -6,14 +6,14 @@
 use mathlib.Core.Path.{_≡_, refl, sym, _∙_}
 use mathlib.Core.Logic.{_⊎_, inl, inr, ⊎-elim, _≢_}
 use mathlib.Core.List.{List, [], _∷_}
+use mathlib.Core.Option.{none, some}
 use Prim.Native.Nat.{ℕ, zero, suc, pred, _+_, _-_, _*_, _≤_, _<_}
 use native.Mathlib.Omega.{arith}
 use borrow.Author.Tests.{eq-eqb, ne-eqb}
 use lib.ListN.{getD, length}
 use Rattle.definitions.specs.Limits.{maxSize}
-use Rattle.definitions.specs.Blocks.{Window, windowsOf}
-use Rattle.definitions.specs.Model.{nobody, by}
-use Rattle.definitions.specs.Network.{Piece, sizeOf, blockOf}
+use Rattle.definitions.specs.Network.{Piece, sizeOf}
+use Rattle.definitions.specs.Blocks.{Window, windowsOf, blockOf}
 use Rattle.definitions.specs.Labelling.{placeOf}
 use Rattle.basics.specs.Lists.{Different, every-at}
 use Rattle.splits.specs.Windows.{Inside, windows-inside}
@@ -23,12 +23,12 @@ use Rattle.layout.specs.Places.{different-at}
 use Rattle.layout.specs.Parts.{vertex-of-row}
 use Rattle.layout.specs.Stretches.{Stretch, stretch-fits, stretch-window}
 
-pub placeOf-none : (v a : ℕ) (xs : List ℕ) → ((j : ℕ) → j < length xs → getD xs j 0 ≢ v) → placeOf v a xs ≡ nobody
+pub placeOf-none : (v a : ℕ) (xs : List ℕ) → ((j : ℕ) → j < length xs → getD xs j 0 ≢ v) → placeOf v a xs ≡ none
 unfolding placeOf
 placeOf-none v a [] f = refl
 placeOf-none v a (x ∷ xs) f = rw (ne-eqb v x (λ e. f 0 (omega arith) (sym e))) (placeOf-none v (suc a) xs (λ j l. f (suc j) (omega arith)))
 
-pub placeOf-at : (v a : ℕ) (xs : List ℕ) (i : ℕ) → i < length xs → getD xs i 0 ≡ v → ((j : ℕ) → j < i → getD xs j 0 ≢ v) → placeOf v a xs ≡ by (a + i) 0
+pub placeOf-at : (v a : ℕ) (xs : List ℕ) (i : ℕ) → i < length xs → getD xs i 0 ≡ v → ((j : ℕ) → j < i → getD xs j 0 ≢ v) → placeOf v a xs ≡ some (a + i)
 unfolding placeOf
 placeOf-at v a [] i l h f = absurd (omega arith)
 placeOf-at v a (x ∷ xs) zero l h f = let e : a + 0 ≡ a = omega arith in rw (eq-eqb v x (sym h), e)
@@ -40,12 +40,12 @@ placeOf-at v a (x ∷ xs) (suc i) l h f =
 
 module _ (q : Piece) (w : Window) where
   -- no place of the rows has v
-  row-none : (v : ℕ) → ((r : ℕ) → r < w .rows → getD (q .vertices) (w .row0 + r) 0 ≢ v) → placeOf v 0 (blockOf q w .rows) ≡ nobody
+  row-none : (v : ℕ) → ((r : ℕ) → r < w .rows → getD (q .vertices) (w .row0 + r) 0 ≢ v) → placeOf v 0 (blockOf q w .rows) ≡ none
   row-none v f =
       placeOf-none v 0 (blockOf q w .rows) (λ r l e. let n : r < w .rows = rw (block-rows q w) at l in f r n (sym (vertex-of-row q w r n) ∙ e))
 
   module _ (inside : w .row0 + w .rows ≤ sizeOf q) where
-    pub row-absent : (v : ℕ) → ((i : ℕ) → i < sizeOf q → getD (q .vertices) i 0 ≢ v) → placeOf v 0 (blockOf q w .rows) ≡ nobody
+    pub row-absent : (v : ℕ) → ((i : ℕ) → i < sizeOf q → getD (q .vertices) i 0 ≢ v) → placeOf v 0 (blockOf q w .rows) ≡ none
     row-absent v f = row-none v (λ r l. f (w .row0 + r) (omega arith))
 
     module _ (apart : Different (q .vertices)) (v i : ℕ) (l : i < sizeOf q) (h : getD (q .vertices) i 0 ≡ v) where
@@ -54,7 +54,7 @@ module _ (q : Piece) (w : Window) where
       unfolding sizeOf
       only r s e = different-at (q .vertices) apart (w .row0 + r) i (omega arith) l (e ∙ sym h)
 
-      pub row-inside : w .row0 ≤ i → i < w .row0 + w .rows → placeOf v 0 (blockOf q w .rows) ≡ by (i - w .row0) 0
+      pub row-inside : w .row0 ≤ i → i < w .row0 + w .rows → placeOf v 0 (blockOf q w .rows) ≡ some (i - w .row0)
       row-inside a b =
           let r = i - w .row0 in
           let n : r < w .rows = omega arith in
@@ -64,7 +64,7 @@ module _ (q : Piece) (w : Window) where
           (λ j s k. let x : w .row0 + j ≡ i = only j (omega arith) (sym (vertex-of-row q w j (omega arith)) ∙ k) in omega arith)
           ∙ rw z
 
-      pub row-outside : (i < w .row0) ⊎ (w .row0 + w .rows ≤ i) → placeOf v 0 (blockOf q w .rows) ≡ nobody
+      pub row-outside : (i < w .row0) ⊎ (w .row0 + w .rows ≤ i) → placeOf v 0 (blockOf q w .rows) ≡ none
       row-outside (inl a) = row-none v (λ r s e. let x : w .row0 + r ≡ i = only r s e in omega arith)
       row-outside (inr a) = row-none v (λ r s e. let x : w .row0 + r ≡ i = only r s e in omega arith)
 
@@ -72,7 +72,7 @@ module _ (q : Piece) (w : Window) where
 
 pub row-elsewhere : (q : Piece) (s start k : ℕ) → sizeOf q ≤ maxSize → Stretch (windowsOf (sizeOf q)) s start k → Different (q .vertices)
     → (v i : ℕ) → i < sizeOf q → getD (q .vertices) i 0 ≡ v → (i < start) ⊎ (start + k ≤ i)
-    → (j : ℕ) → j < 2 * pred k → placeOf v 0 (blockOf q (getD (windowsOf (sizeOf q)) (s + j) noWindow) .rows) ≡ nobody
+    → (j : ℕ) → j < 2 * pred k → placeOf v 0 (blockOf q (getD (windowsOf (sizeOf q)) (s + j) noWindow) .rows) ≡ none
 row-elsewhere q s start k small h apart v i l e out j r =
     let m = sizeOf q in
     let w = getD (windowsOf m) (s + j) noWindow in

@@ -14,8 +14,8 @@ use lib.ListN.{getD, length, take, drop, length-map}
 use lib.Seq.{getD-take, getD-drop}
 use Rattle.definitions.specs.Limits.{maxSize, rowPlaces}
 use Rattle.definitions.specs.Lists.{upFrom}
-use Rattle.definitions.specs.Blocks.{Window, rowsOf, columnsOf}
-use Rattle.definitions.specs.Network.{Piece, entry, blockOf, passes}
+use Rattle.definitions.specs.Network.{Piece, entry}
+use Rattle.definitions.specs.Blocks.{Window, rowsOf, columnsOf, blockOf, passes}
 use Rattle.monge.specs.Matrix.{at, window, liesIn, mongeIn, reversedEntry, reversedRow, reversed, rowsIn}
 use Rattle.monge.specs.Rectangles.{isMonge-same}
 use Rattle.basics.specs.Sequences.{length-upFrom, length-downTo, getD-upFrom, getD-downTo, getD-each}

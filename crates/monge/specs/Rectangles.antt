@@ -10,7 +10,8 @@ use native.Mathlib.Nat.{add-suc, suc-lt-of-lt-pred}
 use native.Mathlib.Numerals.{add-one}
 use native.Mathlib.Omega.{arith}
 use Rattle.definitions.specs.Lists.{all}
-use Rattle.definitions.specs.Blocks.{Rectangle, corners, isMonge}
+use Rattle.definitions.specs.Network.{Rectangle}
+use Rattle.definitions.specs.Blocks.{corners, isMonge}
 use Rattle.basics.specs.Tests.{clash, Truth, holds, fails, truth}
 use Rattle.basics.specs.Lists.{all-at}
 use Rattle.monge.specs.Matrix.{at, window}

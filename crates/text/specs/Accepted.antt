@@ -11,9 +11,9 @@ use Rattle.basics.specs.Lists.{Every, every-append}
 use Rattle.definitions.specs.Limits.{rowPlaces}
 use Rattle.definitions.specs.Lists.{total, firstCause}
 use Rattle.definitions.specs.Network.{Piece, sizeOf}
-use Rattle.definitions.specs.Judgement.{judgeBounds, judgeSize, judgeVertices, judgeRow, judgeRows, judgeBlocks, judgeSource, judgePiece, judgePieces, pieceAt, judgeFrom, judgeNetwork}
+use Rattle.definitions.specs.Judgement.{judgeBounds, judgeSize, judgeVertices, judgeRow, judgeRows, judgeBlocks, judgeSource, judgePiece, pieceAt, judgeFrom, judgeNetwork}
 use Rattle.definitions.specs.Text.{fieldBytes, Read, refused, value, _>>=_, require, readField, readFields, judgeLineEnd, readLine, lineBytes, readRows, readPiece, pieceBytes, readPieces, Plan, judgeEnd, readBody, readPlan, sizesOf, verticesOf, lengthsOf}
-use Rattle.checks.specs.Accepted.{size-in}
+use Rattle.basics.specs.Causes.{size-in}
 use Rattle.text.specs.Reading.{pieceOf, value-same, bind-value, require-value}
 use Rattle.text.specs.Pieces.{Shaped}
 use Rattle.text.specs.Back.{size-back, piece-back}

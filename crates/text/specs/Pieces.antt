@@ -27,7 +27,7 @@ use Rattle.definitions.specs.Network.{Piece, sizeOf}
 use Rattle.definitions.specs.Text.{Read, refused, value, require, fieldBytes, fieldAt, fieldCause, readField, readLine, lineBytes, readRows, readPiece, pieceBytes, readPieces, sizesOf, verticesOf, tableOf, lengthsOf}
 use Rattle.definitions.specs.Judgement.{judgeSize, judgeVertices, judgeBlocks}
 use Rattle.checks.specs.Lent.{judgeTable}
-use Rattle.checks.specs.Accepted.{size-in}
+use Rattle.basics.specs.Causes.{size-in}
 use Rattle.checks.specs.Pieces.{table-blocks}
 use Rattle.monge.specs.Matrix.{rowsIn}
 use Rattle.text.specs.Outcomes.{Came, Holds, Is, RowsLeft}

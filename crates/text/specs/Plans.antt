@@ -18,8 +18,7 @@ use Rattle.definitions.specs.Lists.{total, firstCause}
 use Rattle.definitions.specs.Network.{Piece}
 use Rattle.definitions.specs.Judgement.{judgeBounds, judgeSource}
 use Rattle.definitions.specs.Text.{Read, refused, value, _>>=_, require, readLine, lineBytes, pieceBytes, readPieces, Plan, judgeEnd, readBody, readPlan, judgeLength, sizesOf, verticesOf, lengthsOf}
-use Rattle.definitions.specs.Entries.{AfterRead, hasPlaces, judgeReadBuffers, readRefusal, afterRead, reading}
-use Rattle.checks.specs.Lent.{judgeCounts}
+use Rattle.definitions.specs.Entries.{AfterRead, judgeBuffers, readRefusal, afterRead, reading}
 use Rattle.text.specs.Outcomes.{Came, Holds, Is}
 use Rattle.text.specs.Reading.{require-stop}
 use Rattle.text.specs.Steps.{came-out, came-go}
@@ -143,22 +142,22 @@ abbrev pub After : ReadAnswer → List ℕ → List ℕ → List ℕ → AfterRe
 After answer sizes vertices lengths = record { answer = answer; sizes = sizes; vertices = vertices; lengths = lengths }
 
 module _ (text s v l : List ℕ) where
-  pub after-buffers : (k : ℕ) → k ≡ judgeCounts (length s) (length v) (length l) → k ≢ 0 → After (readRefusal k) s v l ≡ reading text s v l
-  unfolding reading firstCause judgeReadBuffers hasPlaces judgeCounts
+  pub after-buffers : (k : ℕ) → k ≡ judgeBuffers (length s) (length v) (length l) → k ≢ 0 → After (readRefusal k) s v l ≡ reading text s v l
+  unfolding reading firstCause judgeBuffers
   after-buffers k e h = rw (← e, ne-eqb _ _ h, ne-eqb _ _ h)
 
-  module _ (fit : judgeCounts (length s) (length v) (length l) ≡ 0) where
+  module _ (fit : judgeBuffers (length s) (length v) (length l) ≡ 0) where
     pub after-long : maxText < length text → After (readRefusal 2) s v l ≡ reading text s v l
-    unfolding reading firstCause judgeLength judgeReadBuffers hasPlaces judgeCounts
+    unfolding reading firstCause judgeLength judgeBuffers
     after-long h = rw (fit, lt-leb _ _ h)
 
     module _ (short : length text ≤ maxText) where
       pub after-refused : (k : ℕ) → readPlan text ≡ refused k → After (readRefusal k) (replicate sizePlaces 0) (replicate vertexPlaces 0) (replicate lengthPlaces 0) ≡ reading text s v l
-      unfolding reading firstCause judgeLength judgeReadBuffers hasPlaces judgeCounts afterRead
+      unfolding reading firstCause judgeLength judgeBuffers afterRead
       after-refused k e = rw (fit, le-leb _ _ short, e)
 
       pub after-accepted : (plan : Plan) (s′ v′ l′ : List ℕ) → readPlan text ≡ value plan → Held (plan .pieces) s′ v′ l′ → After (planAnswer plan) s′ v′ l′ ≡ reading text s v l
-      unfolding reading firstCause judgeLength judgeReadBuffers hasPlaces judgeCounts afterRead
+      unfolding reading firstCause judgeLength judgeBuffers afterRead
       after-accepted plan s′ v′ l′ e h = rw (fit, le-leb _ _ short, e, h .sizes-hold, h .vertices-hold, h .lengths-hold)
 
       pub after-done : (answer : ReadAnswer) (s′ v′ l′ : List ℕ) → PlanRead text answer s′ v′ l′ → answer .number ≡ 0 → After answer s′ v′ l′ ≡ reading text s v l

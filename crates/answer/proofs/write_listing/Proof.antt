@@ -26,13 +26,13 @@ textOf c = entered c .before .before .before .args .text .now
 refusal : (c : tie.Then2) → let r = readOf (c .before) in (r .read-text .result .number ≤ 8) × (refusalLine (r .read-text .result .number) ≡ listing (textOf r))
 refusal c =
     let r = readOf (c .before) .read-text in
-    read-refused _ _ _ _ (sized _ _ _ refl refl refl) (r .result) (r .last .1 .0) (r .last .1 .1 .0) (r .last .1 .1 .1 .0) (r .ensures) (c .if2 .taken)
+    read-refused _ _ _ _ (r .result) (r .last .1 .0) (r .last .1 .1 .0) (r .last .1 .1 .1 .0) (r .ensures) sized (c .if2 .taken)
 
 -- the reader's answer is 0
 understood : (c : tie.Else2) → let r = readOf (c .before) in Understood (textOf r) (r .read-text .result) (r .read-text .last .1 .0) (r .read-text .last .1 .1 .0) (r .read-text .last .1 .1 .1 .0)
 understood c =
     let r = readOf (c .before) .read-text in
-    read-accepted _ _ _ _ (sized _ _ _ refl refl refl) (r .result) (r .last .1 .0) (r .last .1 .1 .0) (r .last .1 .1 .1 .0) (r .ensures) (c .if2 .left)
+    read-accepted _ _ _ _ (r .result) (r .last .1 .0) (r .last .1 .1 .0) (r .last .1 .1 .1 .0) (r .ensures) sized (c .if2 .left)
 
 returns : tie.Need-returns
 returns c = untouched _ _ (c .if1 .taken)

@@ -7,12 +7,13 @@
 --   second-asked second-few goes-second          it lies in the second half
 use mathlib.Core.Path.{_≡_, sym, ap, _∙_}
 use mathlib.Core.List.{List}
+use mathlib.Core.Option.{some}
 use Prim.Native.Nat.{ℕ, pred, _+_, _-_, _*_, _/_, _≤_, _<_}
 use native.Mathlib.Omega.{arith}
 use lib.ListN.{getD, length}
-use Rattle.definitions.specs.Blocks.{Window, windowsOf}
-use Rattle.definitions.specs.Model.{by, Call, extend}
-use Rattle.definitions.specs.Network.{Piece, sizeOf, Block}
+use Rattle.definitions.specs.Network.{Piece, sizeOf}
+use Rattle.definitions.specs.Blocks.{Window, windowsOf, Block}
+use Rattle.definitions.specs.Model.{Call, extend}
 use Rattle.definitions.specs.Labelling.{BlockState, activation, apply, placeOf, noBlockState}
 use Rattle.heap_laws.specs.Traces.{step-new}
 use Rattle.labelling_laws.specs.OneBlock.{Welcome}
@@ -91,11 +92,11 @@ module _ (matrix : List (List ℕ)) (parts : List ℕ) (bs : List Block) (values
     few = way-in (Running matrix parts bs heaps values words) s start k n w
 
     -- a block of the stretch that has the vertex as row r, where r is its place from the block's first row on
-    accepts : (g r : ℕ) → s ≤ g → g < s + 2 * pred k → placeOf (x .vertex) 0 (blockIn first ss g .block .rows) ≡ by r 0
+    accepts : (g r : ℕ) → s ≤ g → g < s + 2 * pred k → placeOf (x .vertex) 0 (blockIn first ss g .block .rows) ≡ some r
         → labelAt parts values (first + g) r ≡ x .label → Accepts parts bs values (w .states) (first + g) r
     accepts g r a b row label = record {
       block-in = omega (arith, stands .fits, few, w .down .long, count-is matrix parts bs heaps values (w .states) (w .kept .held));
-      accepted = rw (w .down .still g a b, label) (ready .welcome g (omega (arith, few)) r 0 row);
+      accepted = rw (w .down .still g a b, label) (ready .welcome g (omega (arith, few)) r row);
     }
 
     -- the label of a block's row at place i is the spot's

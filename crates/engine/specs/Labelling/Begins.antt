@@ -13,7 +13,7 @@ use lib.Seq.{getD-take, getD-drop, take-set-le, take-set-lt, drop-set-lt, drop-s
 use Rattle.definitions.specs.Limits.{vertexPlaces}
 use Rattle.definitions.specs.Lists.{mem}
 use Rattle.definitions.specs.Model.{nobody, least, fresh, parent, available, isActivated, intervals}
-use Rattle.definitions.specs.Network.{Block, noBlock, blocks}
+use Rattle.definitions.specs.Blocks.{Block, noBlock, blocks}
 use Rattle.definitions.specs.Labelling.{BlockState, noBlockState, freshBlock, leastOf}
 use Rattle.definitions.specs.Judgement.{piecesOf}
 use Rattle.basics.specs.Tests.{split-at}

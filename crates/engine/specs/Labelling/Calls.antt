@@ -14,9 +14,9 @@ use lib.ListN.{getD, length, set, take, drop, length-map, List·getD-map}
 use lib.Seq.{getD-take, getD-drop, getD-set-same, getD-set-other, map-set-same}
 use Rattle.definitions.specs.declared.Extraction.{Extraction}
 use Rattle.definitions.specs.Lists.{mem}
-use Rattle.definitions.specs.Blocks.{Rectangle}
+use Rattle.definitions.specs.Network.{Rectangle}
+use Rattle.definitions.specs.Blocks.{Block, noBlock}
 use Rattle.definitions.specs.Model.{Best, nobody, by, lesser, Activation, Model, through, parent, available, leastFrom, judge, activate, extract, extractionOf, Call, Trace, extend}
-use Rattle.definitions.specs.Network.{Block, noBlock}
 use Rattle.definitions.specs.Labelling.{BlockState, noBlockState, activation, extraction, apply, leastOf}
 use Rattle.basics.specs.Tests.{Truth, holds, fails, truth, Equal, equal, differ, equality}
 use Rattle.heap_laws.specs.Least.{UpTo, upTo-lesser, from-is, upTo-is}

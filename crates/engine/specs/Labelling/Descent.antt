@@ -6,14 +6,14 @@
 use mathlib.Core.Path.{_≡_, refl, sym, _∙_}
 use mathlib.Core.List.{List}
 use mathlib.Core.Logic.{_⊎_, inl, inr, ⊎-elim, _≢_}
+use mathlib.Core.Option.{none, some}
 use Prim.Native.Nat.{ℕ, pred, _+_, _-_, _*_, _/_, _≤_, _<_}
 use native.Mathlib.Omega.{arith}
 use lib.ListN.{getD, length, set, length-set}
 use lib.Seq.{getD-set-same, getD-set-other}
 use Rattle.definitions.specs.Limits.{maxSize}
-use Rattle.definitions.specs.Blocks.{Window, windowsOf}
-use Rattle.definitions.specs.Model.{nobody, by}
-use Rattle.definitions.specs.Network.{Piece, sizeOf, blockOf}
+use Rattle.definitions.specs.Network.{Piece, sizeOf}
+use Rattle.definitions.specs.Blocks.{Window, windowsOf, blockOf}
 use Rattle.definitions.specs.Labelling.{BlockState, activation, apply, placeOf, activateVertex, noBlockState}
 use Rattle.basics.specs.Tests.{split-at, Equal, equal, differ, equality}
 use Rattle.basics.specs.Lists.{Different, every-at}
@@ -73,12 +73,12 @@ module _ (q : Piece) (first v i l : ℕ) (ss : List BlockState) (h : Stands q fi
   window-inside j r = every-at (Inside m) (windowsOf m) (windows-inside m (h .small)) j noWindow (omega (arith, length-windowsOf m (h .small)))
 
   -- the block at a window of the piece: its row where i is one of the rows, else none
-  has-row : (j : ℕ) (w : Window) → window j ≡ w → j < 2 * pred m → w .row0 ≤ i → i < w .row0 + w .rows → placeOf v 0 (blockIn first ss j .block .rows) ≡ by (i - w .row0) 0
+  has-row : (j : ℕ) (w : Window) → window j ≡ w → j < 2 * pred m → w .row0 ≤ i → i < w .row0 + w .rows → placeOf v 0 (blockIn first ss j .block .rows) ≡ some (i - w .row0)
   has-row j w e r a b =
       let x : w .row0 + w .rows ≤ m = rw (← e) (window-inside j r .rows-in) in
       rw (h .blocks-are j r, e) (row-inside q w x (h .apart) v i (h .inside) (h .here) a b)
 
-  no-row : (j : ℕ) (w : Window) → window j ≡ w → j < 2 * pred m → (i < w .row0) ⊎ (w .row0 + w .rows ≤ i) → placeOf v 0 (blockIn first ss j .block .rows) ≡ nobody
+  no-row : (j : ℕ) (w : Window) → window j ≡ w → j < 2 * pred m → (i < w .row0) ⊎ (w .row0 + w .rows ≤ i) → placeOf v 0 (blockIn first ss j .block .rows) ≡ none
   no-row j w e r o =
       let x : w .row0 + w .rows ≤ m = rw (← e) (window-inside j r .rows-in) in
       rw (h .blocks-are j r, e) (row-outside q w x (h .apart) v i (h .inside) (h .here) o)
@@ -90,12 +90,12 @@ module _ (q : Piece) (first v i l : ℕ) (ss : List BlockState) (h : Stands q fi
     -- block g of the stretch has v as row r, and the others outside a smaller stretch do not have it
     turn : (g r s′ start′ k′ : ℕ) (more : ℕ) → s ≤ g → g < s′ → s′ + 2 * pred k′ ≤ s + 2 * pred k
         → Stretch (windowsOf m) s′ start′ k′ → start′ ≤ i → i < start′ + k′
-        → placeOf v 0 (blockIn first ss g .block .rows) ≡ by r 0
-        → ((j : ℕ) → s ≤ j → j < s + 2 * pred k → j ≢ g → (j < s′) ⊎ (s′ + 2 * pred k′ ≤ j) → placeOf v 0 (blockIn first ss j .block .rows) ≡ nobody)
+        → placeOf v 0 (blockIn first ss g .block .rows) ≡ some r
+        → ((j : ℕ) → s ≤ j → j < s + 2 * pred k → j ≢ g → (j < s′) ⊎ (s′ + 2 * pred k′ ≤ j) → placeOf v 0 (blockIn first ss j .block .rows) ≡ none)
         → g < s + 2 * pred k
         → apply (blockIn first ss′ g) (activation r l) .trace .inserted ≡ blockIn first ss′ g .trace .inserted + more
         → Descended q first v i l ss s′ start′ k′ (set ss′ (first + g) (apply (blockIn first ss′ g) (activation r l))) (n + more)
-    turn g r s′ start′ k′ more a b e stretch low high row none c grown = record {
+    turn g r s′ start′ k′ more a b e stretch low high row elsewhere c grown = record {
       stretch = stretch;
       low = low;
       high = high;
@@ -117,12 +117,12 @@ module _ (q : Piece) (first v i l : ℕ) (ss : List BlockState) (h : Stands q fi
         apart x (inr o) = omega (arith, few)
 
         old : (j : ℕ) → s ≤ j → j < s + 2 * pred k → (j < s′) ⊎ (s′ + 2 * pred k′ ≤ j) → j ≢ g → blockIn first ss′ j ≡ activateVertex v l (blockIn first ss j)
-        old j x y o z = d .still j x y ∙ sym (activated-none v l (blockIn first ss j) (none j x y z o))
+        old j x y o z = d .still j x y ∙ sym (activated-none v l (blockIn first ss j) (elsewhere j x y z o))
 
         changed : (j : ℕ) → j < 2 * pred m → (j < s′) ⊎ (s′ + 2 * pred k′ ≤ j) → Equal j g
             → getD (set ss′ (first + g) new) (first + j) noBlockState ≡ activateVertex v l (blockIn first ss j)
         changed j x o (equal t z) =
-            rw (z, getD-set-same ss′ (first + g) new noBlockState room, d .still g a c) (sym (activated-one v l (blockIn first ss g) r 0 row))
+            rw (z, getD-set-same ss′ (first + g) new noBlockState room, d .still g a c) (sym (activated-one v l (blockIn first ss g) r row))
         changed j x o (differ t z) =
             getD-set-other ss′ (first + g) (first + j) new noBlockState (omega arith)
             ∙ ⊎-elim
@@ -131,10 +131,10 @@ module _ (q : Piece) (first v i l : ℕ) (ss : List BlockState) (h : Stands q fi
             (split-at j s)
 
     module _ (two : 2 ≤ k) where
-      pub first-row : i < start + k / 2 → placeOf v 0 (blockIn first ss s .block .rows) ≡ by (i - start) 0
+      pub first-row : i < start + k / 2 → placeOf v 0 (blockIn first ss s .block .rows) ≡ some (i - start)
       first-row r = has-row s (forth start k) (stretch-first (windowsOf m) s start k (d .stretch) two) (omega (arith, few)) (d .low) r
 
-      pub second-row : start + k / 2 ≤ i → placeOf v 0 (blockIn first ss (s + 1) .block .rows) ≡ by (i - (start + k / 2)) 0
+      pub second-row : start + k / 2 ≤ i → placeOf v 0 (blockIn first ss (s + 1) .block .rows) ≡ some (i - (start + k / 2))
       second-row r = has-row (s + 1) (back start k) (stretch-second (windowsOf m) s start k (d .stretch) two) (omega (arith, few)) r (omega (arith, d .high))
 
       -- i lies in the first half of the stretch
@@ -142,20 +142,20 @@ module _ (q : Piece) (first v i l : ℕ) (ss : List BlockState) (h : Stands q fi
           → apply (blockIn first ss′ s) (activation (i - start) l) .trace .inserted ≡ blockIn first ss′ s .trace .inserted + more
           → Descended q first v i l ss (s + 2) start (k / 2) (set ss′ (first + s) (apply (blockIn first ss′ s) (activation (i - start) l))) (n + more)
       descent-first more r grown =
-          turn s (i - start) (s + 2) start (k / 2) more (omega arith) (omega arith) (omega arith) (stretch-left (windowsOf m) s start k (d .stretch) two) (d .low) r (first-row r) none (omega arith) grown
+          turn s (i - start) (s + 2) start (k / 2) more (omega arith) (omega arith) (omega arith) (stretch-left (windowsOf m) s start k (d .stretch) two) (d .low) r (first-row r) elsewhere (omega arith) grown
         where
-          other : (j : ℕ) → s + 2 * (k / 2) ≤ j → j < s + 2 * pred k → placeOf v 0 (blockIn first ss j .block .rows) ≡ nobody
+          other : (j : ℕ) → s + 2 * (k / 2) ≤ j → j < s + 2 * pred k → placeOf v 0 (blockIn first ss j .block .rows) ≡ none
           other j a b =
               let e : s + 2 * (k / 2) + (j - (s + 2 * (k / 2))) ≡ j = omega arith in
               rw (h .blocks-are j (omega (arith, few)))
               (rw e at (row-elsewhere q (s + 2 * (k / 2)) (start + k / 2) (k - k / 2) (h .small) (stretch-right (windowsOf m) s start k (d .stretch) two) (h .apart) v i (h .inside) (h .here)
               (inl r) (j - (s + 2 * (k / 2))) (omega arith)))
 
-          none : (j : ℕ) → s ≤ j → j < s + 2 * pred k → j ≢ s → (j < s + 2) ⊎ (s + 2 + 2 * pred (k / 2) ≤ j) → placeOf v 0 (blockIn first ss j .block .rows) ≡ nobody
-          none j a b z (inl o) =
+          elsewhere : (j : ℕ) → s ≤ j → j < s + 2 * pred k → j ≢ s → (j < s + 2) ⊎ (s + 2 + 2 * pred (k / 2) ≤ j) → placeOf v 0 (blockIn first ss j .block .rows) ≡ none
+          elsewhere j a b z (inl o) =
               let e : j ≡ s + 1 = omega arith in
               no-row j (back start k) (rw e (stretch-second (windowsOf m) s start k (d .stretch) two)) (omega (arith, few)) (inl r)
-          none j a b z (inr o) = other j (omega arith) b
+          elsewhere j a b z (inr o) = other j (omega arith) b
 
       pub descent-second : (more : ℕ) → start + k / 2 ≤ i
           → apply (blockIn first ss′ (s + 1)) (activation (i - (start + k / 2)) l) .trace .inserted ≡ blockIn first ss′ (s + 1) .trace .inserted + more
@@ -163,11 +163,11 @@ module _ (q : Piece) (first v i l : ℕ) (ss : List BlockState) (h : Stands q fi
           (set ss′ (first + (s + 1)) (apply (blockIn first ss′ (s + 1)) (activation (i - (start + k / 2)) l))) (n + more)
       descent-second more r grown =
           turn (s + 1) (i - (start + k / 2)) (s + 2 * (k / 2)) (start + k / 2) (k - k / 2) more (omega arith) (omega arith) (omega arith)
-          (stretch-right (windowsOf m) s start k (d .stretch) two) r (omega (arith, d .high)) (second-row r) none (omega arith) grown
+          (stretch-right (windowsOf m) s start k (d .stretch) two) r (omega (arith, d .high)) (second-row r) elsewhere (omega arith) grown
         where
-          none : (j : ℕ) → s ≤ j → j < s + 2 * pred k → j ≢ s + 1 → (j < s + 2 * (k / 2)) ⊎ (s + 2 * (k / 2) + 2 * pred (k - k / 2) ≤ j)
-              → placeOf v 0 (blockIn first ss j .block .rows) ≡ nobody
-          none j a b z (inl o) = ⊎-elim
+          elsewhere : (j : ℕ) → s ≤ j → j < s + 2 * pred k → j ≢ s + 1 → (j < s + 2 * (k / 2)) ⊎ (s + 2 * (k / 2) + 2 * pred (k - k / 2) ≤ j)
+              → placeOf v 0 (blockIn first ss j .block .rows) ≡ none
+          elsewhere j a b z (inl o) = ⊎-elim
               (λ (x : j < s + 1).
               let e : j ≡ s = omega arith in
               no-row j (forth start k) (rw e (stretch-first (windowsOf m) s start k (d .stretch) two)) (omega (arith, few)) (inr r))
@@ -177,7 +177,7 @@ module _ (q : Piece) (first v i l : ℕ) (ss : List BlockState) (h : Stands q fi
               (rw e at (row-elsewhere q (s + 2) start (k / 2) (h .small) (stretch-left (windowsOf m) s start k (d .stretch) two) (h .apart) v i (h .inside) (h .here)
               (inr r) (j - (s + 2)) (omega arith))))
               (split-at j (s + 1))
-          none j a b z (inr o) = absurd (omega arith)
+          elsewhere j a b z (inr o) = absurd (omega arith)
 
     -- a single place has no block: all blocks of the piece are done
     pub descent-done : k ≤ 1 → (j : ℕ) → j < 2 * pred m → blockIn first ss′ j ≡ activateVertex v l (blockIn first ss j)

@@ -2,38 +2,39 @@
 --   judged-labels judged-network judged-source    the judgement, cause by cause
 --   may-begin can-label                           what is prepared for an accepted network
 --   refused labelled                              what the entry returns and leaves
---   Plain plain                                   the same in plain terms
+--   plain                                         the same in plain terms
 use mathlib.Core.Path.{_≡_, refl, sym, ap, _∙_}
-use mathlib.Core.Bool.{true, not, _&&_, and-true, and-false}
 use mathlib.Core.List.{List, [], _∷_}
 use mathlib.Core.Logic.{⊎-elim, _≢_}
-use Prim.Native.Nat.{ℕ, zero, suc, _+_, _*_, _≤_, _<_}
+use Prim.Native.Nat.{ℕ, zero, suc, _+_, _≤_, _<_}
 use native.Mathlib.Omega.{arith}
 use borrow.Author.Tests.{eq-eqb, ne-eqb, eqb-true}
-use lib.Dec.{eqb}
 use lib.ListN.{getD, length, replicate}
 use Rattle.definitions.specs.Limits.{maxSize, sizePlaces, vertexPlaces, lengthPlaces, labelPlaces, unreached}
 use Rattle.definitions.specs.Lists.{firstCause}
-use Rattle.definitions.specs.Network.{Piece, blocks, Distance, weight}
+use Rattle.definitions.specs.Network.{Piece}
+use Rattle.definitions.specs.Blocks.{blocks}
 use Rattle.definitions.specs.declared.LabelAnswer.{LabelAnswer}
 use Rattle.definitions.specs.Labelling.{labelling, labels}
 use Rattle.definitions.specs.Judgement.{judgeBounds, judgeSource, judgePiece, pieceAt, piecesOf, judgeFrom, judgeNetwork}
-use Rattle.definitions.specs.Entries.{hasPlaces, judgeReadBuffers, AfterLabel, judgeLabelling, labelAnswer, labelRefusal, labelNetwork}
-use Rattle.basics.specs.Tests.{and-left, and-right, split-at, Equal, equal, differ, equality}
-use Rattle.basics.specs.Lists.{Every, count}
+use Rattle.definitions.specs.Entries.{hasPlaces, judgeBuffers, AfterLabel, judgeLabelling, labelAnswer, labelRefusal, labelNetwork}
+use Rattle.basics.specs.Tests.{split-at, Equal, equal, differ, equality}
+use Rattle.basics.specs.Lists.{Every}
+use Rattle.basics.specs.Causes.{passed, no-cause, test-holds, bounds-in, buffers-are}
 use Rattle.layout.specs.Layout.{matrixOf, placesOf, partsOf, firstsOf, maxWords}
 use Rattle.layout.specs.Numbering.{Fits}
-use Rattle.labelling_laws.specs.Acceptance.{Accepted, no-cause, passed, size-passes, pieces-few, suits}
+use Rattle.labelling_laws.specs.Acceptance.{Accepted, size-passes, suits}
 use Rattle.labelling_laws.specs.Arcs.{blocks-fit}
 use Rattle.labelling_laws.specs.Pieces.{setting}
 use Rattle.labelling_laws.specs.Lent.{lent-accepted}
 use Rattle.labelling_laws.specs.LabellingTheorems as theorems
-use Rattle.labelling_laws.specs.LabellingTheorems.{labels-are-distances, reached-counts, few-extractions, few-insertions}
+use Rattle.labelling_laws.specs.LabellingTheorems.{labels-are-distances, held-limited, reached-counts, few-extractions, few-insertions}
 use Rattle.checks.specs.Lent.{judgeLent}
 use Rattle.engine.specs.Tree.Words.{idle}
 use Rattle.engine.specs.Labelling.Begins.{prepared, begins}
 use Rattle.engine.specs.Labelling.Mapped.{mapped}
 use Rattle.engine.specs.Labelling.Loop.{Begun, CanLabel, Labelled}
+use Rattle.engine.specs.Promises.{Plain}
 
 -- ---- the judgement
 
@@ -60,12 +61,12 @@ two-pass x y z h = go (equality x 0) (equality y 0) (equality z 0)
 module _ (n p : ℕ) (sizes vertices lengths : List ℕ) (source : ℕ) (buffer : List ℕ) where
   pub judged-labels : length buffer ≢ labelPlaces → judgeLabelling n p sizes vertices lengths source buffer ≡ 1
   unfolding judgeLabelling hasPlaces firstCause
-  judged-labels h = simp (ne-eqb (length buffer) labelPlaces h, and-false)
+  judged-labels h = simp (ne-eqb (length buffer) labelPlaces h)
 
   module _ (full : length buffer ≡ labelPlaces) where
-    judged-is : judgeLabelling n p sizes vertices lengths source buffer ≡ firstCause (judgeReadBuffers sizes vertices lengths ∷ judgeNetwork n p sizes vertices lengths ∷ judgeSource n source ∷ [])
-    unfolding judgeLabelling hasPlaces judgeReadBuffers
-    judged-is = simp (eq-eqb (length buffer) labelPlaces full, and-true)
+    judged-is : judgeLabelling n p sizes vertices lengths source buffer ≡ firstCause (judgeBuffers (length sizes) (length vertices) (length lengths) ∷ judgeNetwork n p sizes vertices lengths ∷ judgeSource n source ∷ [])
+    unfolding judgeLabelling hasPlaces
+    judged-is = simp (eq-eqb (length buffer) labelPlaces full) (passed 0 _ refl)
 
     pub judged-network : judgeLent n p sizes vertices lengths ≢ 0 → judgeLabelling n p sizes vertices lengths source buffer ≡ judgeLent n p sizes vertices lengths
     unfolding judgeLent
@@ -99,26 +100,17 @@ module _ (n p : ℕ) (sizes vertices lengths : List ℕ) (source : ℕ) (buffer 
   buffers : (length sizes ≡ sizePlaces) × (length vertices ≡ vertexPlaces) × (length lengths ≡ lengthPlaces) × (length buffer ≡ labelPlaces)
   unfolding judgeLabelling hasPlaces
   buffers =
-      let a = hasPlaces sizePlaces sizes in
-      let b = hasPlaces vertexPlaces vertices in
-      let c = hasPlaces lengthPlaces lengths in
-      let d = hasPlaces labelPlaces buffer in
-      let t : (a && (b && (c && d))) ≡ true = passed _ 0 (no-cause _ ok .0) in
-      let u = and-right a (b && (c && d)) t in
-      let v = and-right b (c && d) u in (
-        eqb-true _ _ (and-left a (b && (c && d)) t),
-        eqb-true _ _ (and-left b (c && d) u),
-        eqb-true _ _ (and-left c d v),
-        eqb-true _ _ (and-right c d v),
-      )
+      let causes = no-cause _ ok in
+      let three = buffers-are (length sizes) (length vertices) (length lengths) (causes .1 .0) in
+      (three .0, three .1, three .2, eqb-true _ _ (test-holds _ 0 (causes .0)))
 
   fits : Fits p sizes vertices lengths
   unfolding judgeLabelling judgeNetwork
   fits =
       let causes = no-cause _ ok in
-      let network = no-cause (judgeBounds n p ∷ judgeFrom n sizes vertices lengths 0 p ∷ []) (causes .1 .0) in
+      let network = no-cause (judgeBounds n p ∷ judgeFrom n sizes vertices lengths 0 p ∷ []) (causes .1 .1 .0) in
       record {
-        pieces-in = pieces-few n p (network .0);
+        pieces-in = bounds-in n p (network .0) .1;
         small = λ d l. sizes-pass n sizes vertices lengths 0 p (network .1 .0) d (omega arith) (omega arith);
         vertices-in = buffers .1;
         lengths-in = buffers .2;
@@ -145,14 +137,6 @@ module _ (n p : ℕ) (sizes vertices lengths : List ℕ) (source : ℕ) (buffer 
 
 -- ---- what the entry returns and leaves
 
--- In plain terms: the labels are distances, places above n are unreached, and the counts are bounded by the sum over the pieces of m·⌈log₂ m⌉
-pub record Plain (n p : ℕ) (sizes vertices lengths : List ℕ) (source : ℕ) (r : LabelAnswer) (after : List ℕ) : Type 0 where
-  pub distances : (i : ℕ) → i < labelPlaces → Distance (piecesOf p sizes vertices lengths) source (suc i) (getD after i 0)
-  pub above-n : (i : ℕ) → n ≤ i → i < labelPlaces → getD after i 0 ≡ unreached
-  pub reached-is : r .reached ≡ count (λ i. not (eqb (getD after i 0) unreached)) labelPlaces
-  pub few-extracted : r .extracted ≤ weight (piecesOf p sizes vertices lengths)
-  pub few-inserted : r .inserted ≤ 5 * weight (piecesOf p sizes vertices lengths)
-
 module _ (n p : ℕ) (sizes vertices lengths : List ℕ) (source : ℕ) (buffer : List ℕ) where
   abbrev cause : ℕ
   cause = judgeLabelling n p sizes vertices lengths source buffer
@@ -168,10 +152,10 @@ module _ (n p : ℕ) (sizes vertices lengths : List ℕ) (source : ℕ) (buffer 
 
   pub plain : (r : LabelAnswer) (after : List ℕ) → record { answer = r; labels = after } ≡ labelNetwork n p sizes vertices lengths source buffer → r .number ≡ 0 → Plain n p sizes vertices lengths source r after
   unfolding labelNetwork labelAnswer
-  plain r after e none = go (equality cause 0)
+  plain r after e done = go (equality cause 0)
     where
       go : Equal cause 0 → Plain n p sizes vertices lengths source r after
-      go (differ t q) = absurd (q (sym (ap (λ (x : AfterLabel). x .answer .number) (rw t at e)) ∙ none))
+      go (differ t q) = absurd (q (sym (ap (λ (x : AfterLabel). x .answer .number) (rw t at e)) ∙ done))
       go (equal t q) =
           let ok = lent-accepted n p sizes vertices lengths source buffer q in
           let qs = piecesOf p sizes vertices lengths in
@@ -180,6 +164,7 @@ module _ (n p : ℕ) (sizes vertices lengths : List ℕ) (source : ℕ) (buffer 
           let b : after ≡ labels last = ap (λ (x : AfterLabel). x .labels) (rw t at e) in
           rw (a, b) (record {
             distances = labels-are-distances n qs source ok;
+            limited = held-limited n qs source ok;
             above-n = theorems.above-n n qs source ok;
             reached-is = reached-counts n qs source ok;
             few-extracted = few-extractions n qs source ok;

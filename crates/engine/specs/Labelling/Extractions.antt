@@ -12,7 +12,7 @@ use Rattle.definitions.specs.Limits.{vertexPlaces}
 use Rattle.definitions.specs.declared.Extraction.{Extraction}
 use Rattle.definitions.specs.declared.Extraction.the-variants.{Column, Nothing}
 use Rattle.definitions.specs.Model.{Best, nobody, by, leastFrom, extractionOf}
-use Rattle.definitions.specs.Network.{Block, noBlock}
+use Rattle.definitions.specs.Blocks.{Block, noBlock}
 use Rattle.definitions.specs.Labelling.{BlockState, extraction, leastOf, noBlockState}
 use Rattle.heap_laws.specs.Found.{Lowest, found-is}
 use Rattle.layout.specs.Layout.{partNumbers, lastIn}

@@ -13,7 +13,7 @@ use borrow.Rule.Slice.PartMut.{same-len-mid, mid-len, take-put, drop-put}
 use lib.ListN.{getD, length, take, drop, length-drop}
 use lib.Seq.{length-take-le, take-at, drop-at, take-take, drop-drop, take-add}
 use Rattle.definitions.specs.Limits.{vertexPlaces}
-use Rattle.definitions.specs.Network.{Block}
+use Rattle.definitions.specs.Blocks.{Block}
 use Rattle.definitions.specs.Labelling.{BlockState, noBlockState}
 use Rattle.layout.specs.Layout.{slotIn, rowIn, colsIn, rowCountIn, maxWords}
 use Rattle.engine.specs.declared.blocks.Numbers.{Numbers}

@@ -6,13 +6,15 @@
 use mathlib.Core.Path.{_≡_, refl, sym, ap, _∙_}
 use mathlib.Core.List.{List, [], _∷_, _++_, map}
 use mathlib.Core.Logic.{_≢_}
+use mathlib.Core.Option.{none}
 use Prim.Native.Nat.{ℕ, suc, _+_, _-_, _*_, _≤_, _<_}
 use native.Mathlib.Omega.{arith}
 use lib.ListN.{getD, length, set, replicate, length-append, length-replicate}
 use Rattle.definitions.specs.Limits.{maxVertices, labelPlaces, unreached}
 use Rattle.definitions.specs.Lists.{total}
 use Rattle.definitions.specs.Model.{nobody, by}
-use Rattle.definitions.specs.Network.{Piece, Block, noBlock, blocks}
+use Rattle.definitions.specs.Network.{Piece}
+use Rattle.definitions.specs.Blocks.{Block, noBlock, blocks}
 use Rattle.definitions.specs.Labelling.{BlockState, extraction, freshBlock, activateVertex, State, labelOf, chosen, advance, steps, start, columns, labelling, reached, extractions, insertions, labels}
 use Rattle.definitions.specs.Entries.{labelAnswer}
 use Rattle.definitions.specs.declared.LabelAnswer.{LabelAnswer}
@@ -97,11 +99,11 @@ module _ (matrix : List (List ℕ)) (parts places firsts sizes vertices values�
   unfolding steps reached insertions labelOf
   going-begun values heaps words m settles =
       let s = settles vertices qs (fresh) source-given in
-      let none : State = record { blocks = fresh; settled = [] } in
+      let unlabelled : State = record { blocks = fresh; settled = [] } in
       record {
         running = rw (start-is (blocks qs) source) (s .kept);
         shows = ap (λ (xs : List ℕ). set xs (source - 1) 0) (begun .blank ∙ sym (labels-none (fresh)))
-            ∙ sym (labels-set none (start (blocks qs) source) source 0 refl (ap (λ (x : State). x .settled) (start-is (blocks qs) source)) (setting .low) (source-in .1));
+            ∙ sym (labels-set unlabelled (start (blocks qs) source) source 0 refl (ap (λ (x : State). x .settled) (start-is (blocks qs) source)) (setting .low) (source-in .1));
         reached-is = rw (start-is (blocks qs) source);
         extracted-is = start-extracts (blocks qs) source;
         inserted-is = rw (start-is (blocks qs) source) (sym (s .counted ∙ omega (arith, inserted-fresh (blocks qs))));
@@ -201,14 +203,14 @@ module _ (matrix : List (List ℕ)) (parts places firsts sizes vertices : List �
 
       -- it is settled now
       module _ (blank : getD buffer (v - 1) 0 ≡ unreached) where
-        none : labelOf v (st .settled) ≡ nobody
-        none = read-unsettled st v (known .0) (known .1) (labels-short bs n source setting k v) (rw (g .shows) at blank)
+        unsettled : labelOf v (st .settled) ≡ none
+        unsettled = read-unsettled st v (known .0) (known .1) (labels-short bs n source setting k v) (rw (g .shows) at blank)
 
         vertex-given : Given matrix parts places firsts sizes values heaps′ words′ p v s vertices qs after
         vertex-given = record {
           mapped = mapped;
           running = t .called .kept;
-          welcome = rw (t .vertex-is) at (welcome-step bs n source setting k i s c first (t .here) (rw (t .vertex-is) none));
+          welcome = rw (t .vertex-is) at (welcome-step bs n source setting k i s c first (t .here) (rw (t .vertex-is) unsettled));
         }
 
         vertex-asked : CanSettle matrix parts places firsts sizes values heaps′ words′ p v s
@@ -220,10 +222,10 @@ module _ (matrix : List (List ℕ)) (parts places firsts sizes vertices : List �
         turn-new values″ heaps″ words″ m′ settles =
             let z = settles vertices qs after vertex-given in
             let e : steps (k + 1) (start bs source) ≡ record { blocks = map (activateVertex v s) after; settled = st .settled ++ record { vertex = v; label = s } ∷ [] }
-            = rw (t .vertex-is) at (next ∙ advance-new st i c s first (t .here) (rw (t .vertex-is) none)) in
+            = rw (t .vertex-is) at (next ∙ advance-new st i c s first (t .here) (rw (t .vertex-is) unsettled)) in
             record {
               running = rw e (z .kept);
-              shows = ap (λ (xs : List ℕ). set xs (v - 1) s) (g .shows) ∙ sym (labels-set st (steps (k + 1) (start bs source)) v s none (ap (λ (x : State). x .settled) e) (known .0) (known .1));
+              shows = ap (λ (xs : List ℕ). set xs (v - 1) s) (g .shows) ∙ sym (labels-set st (steps (k + 1) (start bs source)) v s unsettled (ap (λ (x : State). x .settled) e) (known .0) (known .1));
               reached-is = rw e (omega (arith, g .reached-is, length-append (st .settled) (record { vertex = v; label = s } ∷ [])));
               extracted-is = one-more;
               inserted-is = rw e (sym (z .counted ∙ omega (arith, counted)));

@@ -10,8 +10,8 @@ use native.Mathlib.Omega.{arith}
 use lib.ListN.{getD, length, take, length-map}
 use lib.Seq.{take-length}
 use Rattle.definitions.specs.Limits.{maxVertices, maxPieces, maxSize, sizePlaces, vertexPlaces, rowPlaces}
-use Rattle.definitions.specs.Blocks.{windowsOf}
-use Rattle.definitions.specs.Network.{Piece, sizeOf, Block, noBlock, blockOf, blocks, noPiece}
+use Rattle.definitions.specs.Network.{Piece, sizeOf, noPiece}
+use Rattle.definitions.specs.Blocks.{windowsOf, Block, noBlock, blockOf, blocks}
 use Rattle.definitions.specs.Judgement.{pieceAt, piecesOf}
 use Rattle.basics.specs.Lists.{Different, every-at}
 use Rattle.basics.specs.Sequences.{length-upFrom, getD-each}

@@ -4,14 +4,14 @@
 use mathlib.Core.Path.{_≡_, refl, sym, ap, _∙_}
 use mathlib.Core.List.{List, map}
 use mathlib.Core.Logic.{_⊎_, inl, inr, ⊎-elim, _≢_}
+use mathlib.Core.Option.{none}
 use Prim.Native.Nat.{ℕ, pred, _+_, _-_, _*_, _≤_, _<_}
 use native.Mathlib.Omega.{arith}
 use lib.ListN.{getD, length, length-map}
 use lib.Seq.{ext-getD}
 use Rattle.definitions.specs.Limits.{maxSize}
-use Rattle.definitions.specs.Blocks.{windowsOf}
-use Rattle.definitions.specs.Model.{nobody}
-use Rattle.definitions.specs.Network.{Piece, sizeOf, blockOf}
+use Rattle.definitions.specs.Network.{Piece, sizeOf}
+use Rattle.definitions.specs.Blocks.{windowsOf, blockOf}
 use Rattle.definitions.specs.Labelling.{BlockState, placeOf, activateVertex, noBlockState}
 use Rattle.basics.specs.Tests.{split-at}
 use Rattle.basics.specs.Lists.{every-at}
@@ -39,13 +39,13 @@ piece-done q first v i l ss h s start k ss′ n d one = record { long = d .long;
 pub piece-absent : (q : Piece) (first v l : ℕ) (ss : List BlockState) → sizeOf q ≤ maxSize
     → ((j : ℕ) → j < 2 * pred (sizeOf q) → blockIn first ss j .block ≡ blockOf q (getD (windowsOf (sizeOf q)) j noWindow))
     → ((i : ℕ) → i < sizeOf q → getD (q .vertices) i 0 ≢ v) → PieceDone first (sizeOf q) v l ss ss 0
-piece-absent q first v l ss small are none = record {
+piece-absent q first v l ss small are absent = record {
   long = refl;
   others = λ b o. refl;
   done = λ j x.
       let w = getD (windowsOf (sizeOf q)) j noWindow in
       let inside : Inside (sizeOf q) w = every-at (Inside (sizeOf q)) (windowsOf (sizeOf q)) (windows-inside (sizeOf q) small) j noWindow (omega (arith, length-windowsOf (sizeOf q) small)) in
-      let e : placeOf v 0 (blockIn first ss j .block .rows) ≡ nobody = rw (are j x) (row-absent q w (inside .rows-in) v none) in
+      let e : placeOf v 0 (blockIn first ss j .block .rows) ≡ none = rw (are j x) (row-absent q w (inside .rows-in) v absent) in
       sym (activated-none v l (blockIn first ss j) e);
   counted = omega arith;
 }

@@ -8,14 +8,15 @@ use mathlib.Core.Path.{_≡_, refl, sym, ap, _∙_}
 use mathlib.Core.Bool.{false}
 use mathlib.Core.List.{List, map}
 use mathlib.Core.Logic.{⊎-elim}
+use mathlib.Core.Option.{some}
 use Prim.Native.Nat.{ℕ, zero, suc, pred, _+_, _-_, _*_, _≤_, _<_}
 use native.Mathlib.Omega.{arith}
 use lib.ListN.{getD, length, set}
 use lib.Seq.{getD-set-same}
 use Rattle.definitions.specs.Limits.{maxVertices, maxPieces, maxSize, sizePlaces, rowPlaces}
-use Rattle.definitions.specs.Blocks.{windowsOf}
-use Rattle.definitions.specs.Model.{by, isActivated}
-use Rattle.definitions.specs.Network.{Piece, sizeOf, Block, noBlock, blockOf, blocks, noPiece}
+use Rattle.definitions.specs.Network.{Piece, sizeOf, noPiece}
+use Rattle.definitions.specs.Blocks.{windowsOf, Block, noBlock, blockOf, blocks}
+use Rattle.definitions.specs.Model.{isActivated}
 use Rattle.definitions.specs.Labelling.{BlockState, placeOf, activateVertex, noBlockState}
 use Rattle.basics.specs.Tests.{split-at}
 use Rattle.basics.specs.Lists.{Every, every-at}
@@ -114,7 +115,7 @@ module _ (matrix : List (List ℕ)) (parts places firsts sizes values₀ heaps�
       are j r = sym (block-same matrix parts (blocks qs) heaps values (x .states) (x .kept .held) (firstOf qs d + j)) ∙ piece .blocks-are j r
 
       before-absent : getD places (placeNumber v d) 0 ≡ 0 → Before (Running matrix parts (blocks qs) heaps values words) qs v l ss (d + 1) n
-      before-absent none =
+      before-absent missing =
           let e : n + 0 ≡ n = omega arith in
           rw e at (more (Running matrix parts (blocks qs) heaps values words) n (Running matrix parts (blocks qs) heaps values words) 0 x (x .states) (x .kept)
           (piece-absent q (firstOf qs d) v l (x .states) (piece .small) are (λ i a z. omega (arith, piece .found v i low high a z))))
@@ -150,9 +151,9 @@ module _ (matrix : List (List ℕ)) (parts places firsts sizes values₀ heaps�
                 let e : rowIn parts b + k ≡ rowPlaces * d + i = omega arith in
                 let in-rows : k < length rows = omega (arith, tall) in
                 let is : getD rows k 0 ≡ v = mapped .rows-are b k r in-rows ∙ rw e (sym (piece .vertex-is i (there .0)) ∙ there .1) in
-                let row : placeOf v 0 rows ≡ by k 0 = rw is at (place-of rows (mapped .rows-differ b r) k in-rows) in
+                let row : placeOf v 0 rows ≡ some k = rw is at (place-of rows (mapped .rows-differ b r) k in-rows) in
                 let w = every-at (Welcome v l) ss (given .welcome) b noBlockState (omega (arith, count-is matrix parts (blocks qs) heaps₀ values₀ ss (given .running .held))) in
-                accepted-is _ _ k l (w k 0 (rw (← same) row)) .row-new
+                accepted-is _ _ k l (w k (rw (← same) row)) .row-new
 
         stored : Running matrix parts (blocks qs) heaps (set values (rowPlaces * d + i) l) words (x .states)
         stored = relabelled matrix parts (blocks qs) heaps values words (x .states) (x .kept) (rowPlaces * d + i) l new
@@ -221,10 +222,10 @@ module _ (matrix : List (List ℕ)) (parts places firsts sizes values₀ heaps�
 
     module _ (less : d < p) where
       pub done-absent : getD places (placeNumber v d) 0 ≡ 0 → Done matrix parts places firsts sizes values₀ heaps₀ words₀ values heaps words p v l (d + 1) n
-      done-absent none = record {
+      done-absent missing = record {
         upTo = omega arith;
         count = omega (arith, x .count);
-        before = λ vertices qs ss g. before-absent matrix parts places firsts sizes values₀ heaps₀ words₀ p v l low high vertices qs ss g d less values heaps words n (x .before vertices qs ss g) none;
+        before = λ vertices qs ss g. before-absent matrix parts places firsts sizes values₀ heaps₀ words₀ p v l low high vertices qs ss g d less values heaps words n (x .before vertices qs ss g) missing;
       }
 
       module _ (some : 0 < getD places (placeNumber v d) 0) where

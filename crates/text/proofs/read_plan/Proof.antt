@@ -1,7 +1,7 @@
 use mathlib.Core.Path.{_≡_, refl, sym, _∙_}
 use mathlib.Core.List.{[]}
 use borrow.Author.Needs.{needs}
-use Rattle.checks.specs.Accepted.{bounds-in}
+use Rattle.basics.specs.Causes.{bounds-in}
 use Rattle.text.specs.Plans.{line-end-in-first, plan-line, plan-bounds, plan-pieces, plan-question, plan-done}
 use Rattle.text.proofs.read_plan.Statement.{statement}
 use Rattle.text.proofs.read_plan.Tie as tie

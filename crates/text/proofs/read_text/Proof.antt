@@ -2,7 +2,7 @@ use mathlib.Core.Path.{_≡_, refl, sym, ap, _∙_}
 use Prim.Native.Nat.{ℕ}
 use lib.ListN.{length, replicate, length-replicate}
 use Rattle.definitions.specs.Limits.{sizePlaces, vertexPlaces, lengthPlaces}
-use Rattle.checks.specs.Accepted.{counts-are}
+use Rattle.basics.specs.Causes.{buffers-are}
 use Rattle.text.specs.Pieces.{held-none}
 use Rattle.text.specs.Plans.{after-buffers, after-long, after-done, after-out}
 use borrow.Author.Needs.{needs}
@@ -54,7 +54,7 @@ clear-requires-3 c κs = search needs
 read-plan-requires : tie.Need-read-plan-requires
 read-plan-requires c κs =
     let k = sym (c .before .before .before .before .before .before .before .before .before .before .before .before .before .before .before .before .before .judge-buffers .ensures) ∙ c .before .before .before .before .before .before .before .before .before .before .before .before .before .before .before .before .if1 .left in
-    let n = counts-are _ _ _ k in
+    let n = buffers-are _ _ _ k in
     let c1 = c .before .before .before .before .before .before .before .before .before .before .before .before .before .clear in
     let c2 = c .before .before .before .before .before .before .before .before .before .clear2 in
     let c3 = c .before .before .before .before .before .clear3 in
@@ -107,7 +107,7 @@ same-length-6 c = search needs
 returns-4 : tie.Need-returns-4
 returns-4 c =
     let k = sym (c .before .before .before .before .before .before .before .before .before .before .before .before .before .before .before .before .before .before .before .before .before .before .before .before .before .before .before .before .before .before .before .before .before .before .before .before .before .judge-buffers .ensures) ∙ c .before .before .before .before .before .before .before .before .before .before .before .before .before .before .before .before .before .before .before .before .before .before .before .before .before .before .before .before .before .before .before .before .before .before .before .before .if1 .left in
-    let n = counts-are _ _ _ k in
+    let n = buffers-are _ _ _ k in
     let r = c .before .before .before .before .before .before .before .before .before .before .before .before .before .before .before .before .before .before .before .read-plan in
     let c1 = c .before .before .before .before .before .before .before .before .before .before .before .before .before .before .before .before .before .before .before .before .before .before .before .before .before .before .before .before .before .before .before .before .before .clear in
     let c2 = c .before .before .before .before .before .before .before .before .before .before .before .before .before .before .before .before .before .before .before .before .before .before .before .before .before .before .before .before .before .clear2 in
