@@ -2,10 +2,12 @@
 //! same run. `cargo bench --offline` prints the tables of docs/PERFORMANCE.md.
 //!
 //! All three labellings must give the same labels, and the two FR-Dijkstras the same counts. The proved one judges the network
-//! before it labels, as it must; so the unproved one does too, by a check of its own. The plain Dijkstra does not.
+//! before it labels, as it must; so the unproved one does too, by a check of its own. The plain Dijkstra does not. Both FR-Dijkstras
+//! keep the same intervals in the same words, but the unproved one finds the columns that a new row wins by walking outward from the
+//! row's place and takes their least sum, where the proved one finds both ends by halving and scans all intervals of the block.
 
 use rabdzhine::{LABELS, LENGTHS, SIZES, VERTICES};
-use reference::network::{weight, Lent, Plan};
+use reference::network::{weight, Lent, Plan, MAX_VERTICES, ROOM};
 use reference::plans::{city, hostile, Kind, Rng, KINDS};
 use reference::{dijkstra, fr_dijkstra, text};
 use std::hint::black_box;
@@ -36,10 +38,10 @@ struct Row {
 
 // ---- measuring
 
-/// Microseconds of a run.
-fn timed<T>(run: impl FnOnce() -> T) -> f64 {
+/// Microseconds of a part.
+fn timed<T>(part: impl FnOnce() -> T) -> f64 {
     let start = Instant::now();
-    black_box(run());
+    black_box(part());
     start.elapsed().as_secs_f64() * 1e6
 }
 
@@ -209,7 +211,8 @@ fn series(title: &str, plans: Vec<(String, Plan)>, growing: bool) -> f64 {
 fn main() {
     let mut rng = Rng::new(2024);
     println!("Microseconds, medians of {ROUNDS} runs from each of {SOURCES} sources.");
-    println!("read, check, label: the proved library. plain: plain Dijkstra. FR: unproved FR-Dijkstra, the same heap.");
+    println!("read, check, label: the proved library. plain: plain Dijkstra. FR: unproved FR-Dijkstra.");
+    println!("The two FR-Dijkstras differ in the search for the columns that a new row wins: the proved one halves, the other walks.");
     println!("label and FR label include the check of the network.");
 
     let shapes = [(1, 1), (1, 2), (2, 2), (2, 4), (4, 4)];
@@ -222,7 +225,9 @@ fn main() {
 
     let mut kinds: Vec<(String, Vec<Kind>)> = KINDS.map(|kind| (format!("{kind:?}"), vec![kind])).into();
     kinds.push(("Mixed".into(), KINDS.into()));
-    let tables = kinds.into_iter().map(|(name, kinds)| (name, hostile(256, &[24; 16], &kinds, &mut rng)));
+    let tables = kinds
+        .into_iter()
+        .map(|(name, kinds)| (name, hostile(MAX_VERTICES, &[ROOM; SIZES], &kinds, &mut rng)));
     let c = series("Hostile tables, 16 x 24", tables.collect(), false);
 
     println!("\nLargest label/FR: {:.2}. The bar is 1.5.", a.max(b).max(c));

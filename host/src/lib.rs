@@ -4,7 +4,7 @@
 //! `include/rabdzhine.h` says what each entry returns and leaves in each lent buffer, and lists the refusals.
 //!
 //! ```
-//! use rabdzhine::*;
+//! use rabdzhine::{label_network, read_text, ReadAnswer, LABELS, LENGTHS, SIZES, UNREACHED, VERTICES};
 //!
 //! // two districts of two gates each, which share gate 2
 //! let text = b"     3     2
@@ -26,6 +26,7 @@
 //! assert_eq!(labels[..4], [0, 250, 370, UNREACHED]);
 //! ```
 #![no_std]
+#![warn(missing_docs)]
 
 mod raw;
 
@@ -52,32 +53,43 @@ pub const LISTING: usize = 4901;
 /// The label of a gate that no run reaches, and of a place above n.
 pub const UNREACHED: u32 = u32::MAX;
 
-/// What the text reader returns. On a refusal `number` is its number and the rest is 0.
+/// What the text reader returns. On a refusal all but `number` is 0.
 #[repr(C)]
 #[derive(Clone, Copy, Debug, PartialEq, Eq)]
 pub struct ReadAnswer {
+    /// 0, or the number of the refusal
     pub number: u32,
+    /// gates
     pub n: u32,
+    /// districts
     pub p: u32,
+    /// the gate to label from
     pub source: u32,
 }
 
-/// What the labelling returns: gates reached, takes, intervals brought in.
+/// What the labelling returns. On a refusal all but `number` is 0.
 #[repr(C)]
 #[derive(Clone, Copy, Debug, PartialEq, Eq)]
 pub struct LabelAnswer {
+    /// 0, or the number of the refusal
     pub number: u32,
+    /// gates with a label, the source too
     pub reached: u32,
+    /// takes
     pub extracted: u32,
+    /// intervals brought in
     pub inserted: u32,
 }
 
-/// What a session returns: intervals brought in and dropped.
+/// What a session returns. On a refusal all but `number` is 0.
 #[repr(C)]
 #[derive(Clone, Copy, Debug, PartialEq, Eq)]
 pub struct SessionAnswer {
+    /// 0, or the number of the refusal
     pub number: u32,
+    /// intervals brought in
     pub inserted: u32,
+    /// intervals dropped
     pub removed: u32,
 }
 

@@ -1,6 +1,6 @@
 //! The field reader and the field writer against the model.
 
-use rabdzhine::*;
+use rabdzhine::{read_field, write_field, LINE};
 use reference::entries;
 use reference::plans::Rng;
 
@@ -63,9 +63,10 @@ fn fields_are_written() {
 
 #[test]
 fn lines_and_places_that_are_not_there_are_refused() {
-    for (size, place) in
-        [(36, 4), (36, 5), (36, usize::MAX), (35, 0), (37, 3), (0, 0), (35, 4), (0, usize::MAX)]
-    {
+    for place in [4, 5, usize::MAX] {
+        compare_write(LINE, place, 12);
+    }
+    for (size, place) in [(LINE - 1, 0), (LINE + 1, 3), (0, 0), (LINE - 1, 4), (0, usize::MAX)] {
         compare_write(size, place, 12);
     }
 }

@@ -1,8 +1,11 @@
 //! Sessions on one block against the model.
 
-use rabdzhine::*;
+use rabdzhine::{run_session, SessionAnswer, ANSWERS, CALLS, INTERVALS, RECTANGLE};
 use reference::entries;
+use reference::model::MAX_LABEL;
+use reference::network::{MAX_CALLS, MAX_LENGTH, MAX_SIZE, ROOM};
 use reference::plans::{session, Rng, Session, KINDS};
+use std::collections::BTreeSet;
 
 /// The outputs start with 7 in them. Returns the number, the answers and the intervals.
 fn compare(s: &Session, places: [usize; 2]) -> (u32, Vec<u32>, Vec<u32>) {
@@ -28,13 +31,12 @@ const PLACES: [usize; 2] = [ANSWERS, INTERVALS];
 
 /// A session on the depot's first block, [5 7; 6 4].
 fn depot(calls: &[[u32; 3]]) -> Session {
-    let mut s =
-        Session { rows: 2, cols: 2, count: calls.len() as u32, lengths: vec![0; 576], calls: vec![0; 192] };
-    for (place, length) in [(0, 5), (1, 7), (24, 6), (25, 4)] {
-        s.lengths[place] = length;
-    }
-    s.calls[..3 * calls.len()].copy_from_slice(&calls.concat());
-    s
+    let mut lengths = vec![0; RECTANGLE];
+    lengths[..2].copy_from_slice(&[5, 7]);
+    lengths[ROOM..][..2].copy_from_slice(&[6, 4]);
+    let mut lent_calls = vec![0; CALLS];
+    lent_calls[..3 * calls.len()].copy_from_slice(&calls.concat());
+    Session { rows: 2, cols: 2, count: calls.len() as u32, lengths, calls: lent_calls }
 }
 
 #[test]
@@ -52,7 +54,7 @@ fn the_depot_examples() {
 #[test]
 fn sound_sessions() {
     let mut rng = Rng::new(31);
-    let mut seen = [false; 51];
+    let mut met = BTreeSet::new();
     let mut largest = 0;
     for _ in 0..400 {
         for kind in KINDS {
@@ -60,47 +62,49 @@ fn sound_sessions() {
             let (number, answers, _) = compare(&s, PLACES);
             assert_eq!(number, 0);
             for answer in answers.chunks(3).take(s.count as usize) {
-                seen[answer[0] as usize] = true;
+                met.insert(answer[0]);
                 largest = largest.max(answer[2]);
             }
         }
     }
-    let met: Vec<usize> = (0..51).filter(|&code| seen[code]).collect();
-    assert_eq!(met, [0, 9, 10, 11, 50]);
-    assert!(largest > 25_499_745); // a take may go above what a tell may say
+    assert_eq!(met, BTreeSet::from([0, 9, 10, 11, 50]));
+    assert!(largest > MAX_LABEL); // a take may go above what a tell may say
 }
 
 #[test]
 fn spoiled_sessions() {
     let mut rng = Rng::new(32);
-    let mut seen = [false; 8];
+    let mut met = BTreeSet::new();
     for _ in 0..2_000 {
         let mut s = session(rng.pick(&KINDS), 7, &mut rng);
-        let used = 24 * rng.below(s.rows) + rng.below(s.cols);
+        let used = ROOM as u32 * rng.below(s.rows) + rng.below(s.cols);
         match rng.below(8) {
-            0 => s.rows = rng.pick(&[0, 25, u32::MAX]),
-            1 => s.cols = rng.pick(&[0, 25, u32::MAX]),
-            2 => s.count = rng.pick(&[65, u32::MAX]),
-            3 => s.lengths[used as usize] = rng.pick(&[100_000, u32::MAX]),
-            _ => s.lengths[used as usize] = rng.below(100_000),
+            0 => s.rows = rng.pick(&[0, MAX_SIZE + 1, u32::MAX]),
+            1 => s.cols = rng.pick(&[0, MAX_SIZE + 1, u32::MAX]),
+            2 => s.count = rng.pick(&[MAX_CALLS + 1, u32::MAX]),
+            3 => s.lengths[used as usize] = rng.pick(&[MAX_LENGTH + 1, u32::MAX]),
+            _ => s.lengths[used as usize] = rng.below(MAX_LENGTH + 1),
         }
-        seen[compare(&s, PLACES).0 as usize] = true;
+        met.insert(compare(&s, PLACES).0);
     }
-    let met: Vec<usize> = (0..8).filter(|&number| seen[number]).collect();
-    assert_eq!(met, [0, 4, 6, 7]);
+    assert_eq!(met, BTreeSet::from([0, 4, 6, 7]));
 }
 
 #[test]
 fn buffers_of_another_size_are_left() {
     let sound = depot(&[[1, 0, 0]]);
-    for places in [[191, 72], [193, 72], [192, 71], [192, 73], [0, 0]] {
-        assert_eq!(compare(&sound, places).0, 1);
+    for size in [ANSWERS - 1, ANSWERS + 1, 0] {
+        assert_eq!(compare(&sound, [size, INTERVALS]).0, 1);
     }
-    for size in [575, 577, 0] {
+    for size in [INTERVALS - 1, INTERVALS + 1, 0] {
+        assert_eq!(compare(&sound, [ANSWERS, size]).0, 1);
+    }
+    assert_eq!(compare(&sound, [0, 0]).0, 1);
+    for size in [RECTANGLE - 1, RECTANGLE + 1, 0] {
         let lengths = vec![0; size];
         assert_eq!(compare(&Session { lengths, rows: 0, ..sound.clone() }, PLACES).0, 1);
     }
-    for size in [191, 193, 0] {
+    for size in [CALLS - 1, CALLS + 1, 0] {
         let calls = vec![0; size];
         assert_eq!(compare(&Session { calls, count: 0, ..sound.clone() }, PLACES).0, 1);
     }

@@ -1,10 +1,11 @@
 //! The text reader and the listing against the model, on sound and on damaged texts.
 
-use rabdzhine::*;
-use reference::damage::{scratched, spoiled, text, texts, DEPOT};
+use rabdzhine::{read_text, write_listing, ReadAnswer, LENGTHS, LISTING, SIZES, VERTICES};
+use reference::damage::{scratched, spoiled, text, texts, DEPOT, DEPOT_LISTING};
 use reference::entries;
 use reference::plans::{all, Rng};
 use reference::text::write;
+use std::collections::BTreeSet;
 
 /// Every buffer starts with 7 in it, so that what is left and what is written shows. Returns the number.
 fn compare(what: &str, bytes: &[u8], places: [usize; 3]) -> u32 {
@@ -32,15 +33,7 @@ const PLACES: [usize; 3] = [SIZES, VERTICES, LENGTHS];
 fn the_depot_example() {
     let mut out = [0; LISTING];
     let written = write_listing(&text(&DEPOT), &mut out);
-    let expected = [
-        "        1        4        8        8",
-        "        1        0",
-        "        2        3",
-        "        3        7",
-        "        4        5",
-        "        5        -",
-    ];
-    assert_eq!(out[..written], text(&expected));
+    assert_eq!(out[..written], text(&DEPOT_LISTING));
 }
 
 #[test]
@@ -63,16 +56,15 @@ fn damaged_texts() {
 #[test]
 fn scratched_and_spoiled_texts() {
     let mut rng = Rng::new(12);
-    let mut seen = [false; 9];
+    let mut met = BTreeSet::new();
     for plan in all(13) {
         let bytes = write(&plan);
         for _ in 0..20 {
-            seen[compare("scratched", &scratched(&bytes, &mut rng), PLACES) as usize] = true;
-            seen[compare("spoiled", &write(&spoiled(&plan, &mut rng)), PLACES) as usize] = true;
+            met.insert(compare("scratched", &scratched(&bytes, &mut rng), PLACES));
+            met.insert(compare("spoiled", &write(&spoiled(&plan, &mut rng)), PLACES));
         }
     }
-    let met: Vec<usize> = (0..9).filter(|&number| seen[number]).collect();
-    assert_eq!(met, [0, 3, 4, 5, 6, 7, 8]);
+    assert_eq!(met, BTreeSet::from([0, 3, 4, 5, 6, 7, 8]));
 }
 
 #[test]

@@ -1,6 +1,6 @@
 //! Texts and networks that are turned away, each with the number of its cause where that is plain from the scope document.
 
-use crate::network::{Lent, Plan, ROOM};
+use crate::network::{Lent, Plan, LENGTHS, ROOM};
 use crate::plans::Rng;
 
 /// Depot example P1.
@@ -12,6 +12,16 @@ pub const DEPOT: [&str; 7] = [
     "     7     4     0     2",
     "     5     6     2     0",
     "     1",
+];
+
+/// What the program `labels` writes for it.
+pub const DEPOT_LISTING: [&str; 6] = [
+    "        1        4        8        8",
+    "        1        0",
+    "        2        3",
+    "        3        7",
+    "        4        5",
+    "        5        -",
 ];
 
 /// The lines as a text.
@@ -171,7 +181,7 @@ pub fn spoiled_lent(lent: &Lent, rng: &mut Rng) -> Lent {
         2 => &mut lent.sizes[d],
         3..=5 => &mut lent.vertices[ROOM * d + i],
         6 => &mut lent.lengths[ROOM * (ROOM * d + i) + i],
-        7 => &mut lent.lengths[rng.below(9216) as usize],
+        7 => &mut lent.lengths[rng.below(LENGTHS as u32) as usize],
         _ => &mut lent.lengths[ROOM * (ROOM * d + i) + j],
     };
     *place = odd(*place, rng);

@@ -1,12 +1,12 @@
 //! The labels by the plainest algorithm: settle the vertex of least label, relax every arc out of it. No blocks and no heap.
 
 use crate::model::UNREACHED;
-use crate::network::{places, Lent, NO_PLACE, ROOM};
+use crate::network::{places, Lent, LABELS, NO_PLACE, ROOM};
 
-/// Fills the labels of an accepted network, 256 places.
+/// Fills the labels of an accepted network, `LABELS` places.
 pub fn label(lent: &Lent, source: u32, labels: &mut [u32]) {
     let places = places(lent);
-    let mut settled = [false; 256];
+    let mut settled = [false; LABELS];
     labels.fill(UNREACHED);
     labels[source as usize - 1] = 0;
     while let Some(u) = least_open(&labels[..lent.n as usize], &settled) {

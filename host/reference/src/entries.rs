@@ -1,10 +1,13 @@
 //! What each entry of the library returns and leaves in its buffers, with the library's own arguments.
 
 use crate::model::{label_plan, Model};
-use crate::network::*;
+use crate::network::{is_monge, judge_places, judge_source, Lent, Plan};
+use crate::network::{ANSWERS, CALLS, COLUMNS, INTERVALS, LABELS, LINE, LISTING, RECTANGLE, ROOM};
+use crate::network::{MAX_CALLS, MAX_LENGTH, MAX_SIZE};
 use crate::number_of;
 use crate::text;
 
+/// The number of the cause. Unless that is 1, `value` gets the field, or 0 if there is none.
 pub fn read_field(bytes: &[u8], at: usize, value: &mut [u32]) -> u32 {
     if value.len() != 1 {
         return 1;
@@ -14,20 +17,21 @@ pub fn read_field(bytes: &[u8], at: usize, value: &mut [u32]) -> u32 {
     number_of(field)
 }
 
+/// The number of the cause. If there is none, `x` stands in the nine columns of that place of the line.
 pub fn write_field(line: &mut [u8], place: usize, x: u32) -> u32 {
-    if line.len() != 36 {
+    if line.len() != LINE {
         return 1;
     }
     if place > 3 {
         return 4;
     }
-    line[9 * place..9 * place + 9].copy_from_slice(text::nine_columns(x).as_bytes());
+    line[COLUMNS * place..][..COLUMNS].copy_from_slice(text::nine_columns(x).as_bytes());
     0
 }
 
 /// number, n, p, source
 pub fn read_text(bytes: &[u8], sizes: &mut [u32], vertices: &mut [u32], lengths: &mut [u32]) -> [u32; 4] {
-    if (sizes.len(), vertices.len(), lengths.len()) != (16, 384, 9216) {
+    if judge_places(sizes, vertices, lengths).is_err() {
         return [1, 0, 0, 0];
     }
     let plan = match text::read(bytes) {
@@ -49,6 +53,7 @@ pub fn read_text(bytes: &[u8], sizes: &mut [u32], vertices: &mut [u32], lengths:
     }
 }
 
+/// The number of the cause.
 pub fn check_network(lent: &Lent) -> u32 {
     number_of(lent.judge_places().and_then(|_| lent.pieces()))
 }
@@ -57,7 +62,7 @@ pub fn check_network(lent: &Lent) -> u32 {
 pub fn label_network(lent: &Lent, source: u32, labels: &mut [u32]) -> [u32; 4] {
     let plan = || -> Result<Plan, u32> {
         lent.judge_places()?;
-        if labels.len() != 256 {
+        if labels.len() != LABELS {
             return Err(1);
         }
         let pieces = lent.pieces()?;
@@ -75,11 +80,11 @@ pub fn label_network(lent: &Lent, source: u32, labels: &mut [u32]) -> [u32; 4] {
 }
 
 fn judge_session(rows: u32, cols: u32, count: u32, lengths: &[u32]) -> Result<Model, u32> {
-    let bounds = 1..=24;
-    if !bounds.contains(&rows) || !bounds.contains(&cols) || count > 64 {
+    let bounds = 1..=MAX_SIZE;
+    if !bounds.contains(&rows) || !bounds.contains(&cols) || count > MAX_CALLS {
         return Err(4);
     }
-    let row = |i: usize| lengths[24 * i..24 * i + cols as usize].to_vec();
+    let row = |i: usize| lengths[ROOM * i..][..cols as usize].to_vec();
     let rectangle: Vec<Vec<u32>> = (0..rows as usize).map(row).collect();
     if rectangle.iter().flatten().any(|&l| l > MAX_LENGTH) {
         return Err(6);
@@ -89,6 +94,9 @@ fn judge_session(rows: u32, cols: u32, count: u32, lengths: &[u32]) -> Result<Mo
     }
     Ok(Model::new(rectangle))
 }
+
+/// What a place that no interval uses holds.
+const NO_INTERVAL: u32 = 255;
 
 /// number, inserted, removed
 pub fn run_session(
@@ -101,7 +109,7 @@ pub fn run_session(
     intervals: &mut [u32],
 ) -> [u32; 3] {
     let places = [lengths.len(), calls.len(), answers.len(), intervals.len()];
-    if places != [576, 192, 192, 72] {
+    if places != [RECTANGLE, CALLS, ANSWERS, INTERVALS] {
         return [1, 0, 0];
     }
     let mut model = match judge_session(rows, cols, count, lengths) {
@@ -113,15 +121,16 @@ pub fn run_session(
         let answer = model.call(calls[3 * j], calls[3 * j + 1], calls[3 * j + 2]);
         answers[3 * j..3 * j + 3].copy_from_slice(&answer);
     }
-    intervals.fill(255);
+    intervals.fill(NO_INTERVAL);
     for (place, interval) in model.intervals().iter().enumerate() {
         intervals[3 * place..3 * place + 3].copy_from_slice(interval);
     }
     [0, model.inserted, model.removed]
 }
 
+/// How many bytes of `out` the listing takes, from the front.
 pub fn write_listing(bytes: &[u8], out: &mut [u8]) -> usize {
-    if out.len() != 4901 {
+    if out.len() != LISTING {
         return 0;
     }
     let listing = text::listing(bytes);

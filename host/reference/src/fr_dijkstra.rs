@@ -1,15 +1,21 @@
-//! The labelling by interval heaps, FR-Dijkstra, unproved: the yardstick for the speed of the proved one. It has the same design:
+//! The labelling by interval heaps, FR-Dijkstra, unproved: the yardstick for the speed of the proved one.
 //!
 //! - the lengths of each piece are copied with their columns reversed, so that every block is a window of the matrix;
 //! - the heap of a block is a part of one array of words: how many intervals, whether a row is activated, then parent, first and last
 //!   column of each interval, packed from the front by rising column;
-//! - an activation walks outward from the place of the new row and ends in a binary search on each side;
+//! - an activation walks outward from the place of the new row and ends in a binary search on each side; the least of the columns won
+//!   is the block's new sum, if it is lower;
 //! - an extraction scans the intervals for the lowest column of least sum;
-//! - a tournament tree of keys, sum * 1024 + block, gives the block;
+//! - a tournament tree of keys, made of sum and block, gives the block;
 //! - the labels of the rows are shared by all blocks of a piece.
+//!
+//! The proved one has this design but for the activation: it finds both ends of the columns won by halving, first over the intervals
+//! and then over the columns of one, and then scans all intervals of the block for its sum.
 
 use crate::model::UNREACHED;
-use crate::network::{places, Lent, MAX_LENGTH, NO_PLACE, ROOM};
+use crate::network::{
+    places, Lent, LABELS, MAX_LENGTH, MAX_PIECES, MAX_VERTICES, NO_PLACE, ROOM, SIZES, VERTICES,
+};
 
 /// A block: its first row in the matrix, its first column there, and where the words of its heap are.
 #[derive(Clone, Copy, Default)]
@@ -21,10 +27,11 @@ struct Block {
     words: usize,
 }
 
-const MAX_BLOCKS: usize = 736;
+/// A piece of 24 vertices has 46 blocks, with 112 columns in all.
+const MAX_BLOCKS: usize = SIZES * 46;
 
 /// Two words for each block and three for each column of each block.
-const MAX_WORDS: usize = 2 * MAX_BLOCKS + 3 * 1792;
+const MAX_WORDS: usize = 2 * MAX_BLOCKS + 3 * (SIZES * 112);
 
 // ---- preparation
 
@@ -33,12 +40,13 @@ struct Blocks {
     all: [Block; MAX_BLOCKS],
     count: usize,
     words: usize,
-    first: [usize; 16],
+    first: [usize; SIZES],
 }
 
 impl Blocks {
     fn of(lent: &Lent) -> Blocks {
-        let mut blocks = Blocks { all: [Block::default(); MAX_BLOCKS], count: 0, words: 0, first: [0; 16] };
+        let mut blocks =
+            Blocks { all: [Block::default(); MAX_BLOCKS], count: 0, words: 0, first: [0; SIZES] };
         for d in 0..lent.p as usize {
             blocks.first[d] = blocks.count;
             let m = lent.sizes[d] as usize;
@@ -68,10 +76,10 @@ impl Blocks {
 }
 
 /// The lengths with the columns of each piece reversed.
-type Matrix = [[u32; ROOM]; 16 * ROOM];
+type Matrix = [[u32; ROOM]; VERTICES];
 
 fn reversed(lent: &Lent) -> Matrix {
-    let mut matrix = [[0; ROOM]; 16 * ROOM];
+    let mut matrix = [[0; ROOM]; VERTICES];
     for d in 0..lent.p as usize {
         let m = lent.sizes[d] as usize;
         for i in 0..m {
@@ -88,7 +96,7 @@ fn reversed(lent: &Lent) -> Matrix {
 
 /// The causes 4 to 7 of a network in buffers of the right sizes, 0 if there is none.
 pub fn check(lent: &Lent) -> u32 {
-    if !(1..=256).contains(&lent.n) || !(1..=16).contains(&lent.p) {
+    if !(1..=MAX_VERTICES).contains(&lent.n) || !(1..=MAX_PIECES).contains(&lent.p) {
         return 4;
     }
     for d in 0..lent.p as usize {
@@ -105,7 +113,7 @@ fn check_piece(lent: &Lent, d: usize) -> u32 {
     if !(1..=ROOM).contains(&m) {
         return 4;
     }
-    let mut seen = [false; 257];
+    let mut seen = [false; LABELS + 1];
     for &v in &lent.vertices[ROOM * d..][..m] {
         if v < 1 || v > lent.n || seen[v as usize] {
             return 5;
@@ -154,6 +162,7 @@ struct Window<'a> {
     lengths: &'a [[u32; ROOM]],
     labels: &'a [u32],
     column: usize,
+    columns: usize,
 }
 
 impl Window<'_> {
@@ -267,12 +276,13 @@ fn replace(heap: &mut [u32], won: Won, new: Option<usize>) -> u32 {
 }
 
 /// How many intervals an activation inserts, and the least sum of the columns won.
-fn activate(heap: &mut [u32], window: &Window, columns: usize, new: usize) -> (u32, Option<u32>) {
+fn activate(heap: &mut [u32], window: &Window, new: usize) -> (u32, Option<u32>) {
     if heap[1] == 0 {
+        let last = window.columns - 1;
         heap[0] = 1;
         heap[1] = 1;
-        put(heap, 0, new, 0, columns - 1);
-        return (1, Some(window.least(new, 0, columns - 1).1));
+        put(heap, 0, new, 0, last);
+        return (1, Some(window.least(new, 0, last).1));
     }
     let won = search(heap, window, new);
     if won.low == won.high {
@@ -297,11 +307,17 @@ fn least(heap: &[u32], window: &Window) -> Option<(usize, usize, u32)> {
 
 // ---- the tournament of the blocks
 
+/// The key of a block with no interval.
 const IDLE: u64 = u64::MAX;
+/// A power of two, as many as there are blocks or more.
 const LEAVES: usize = 1024;
 
 fn key(sum: u32, block: usize) -> u64 {
-    u64::from(sum) * 1024 + block as u64
+    u64::from(sum) * LEAVES as u64 + block as u64
+}
+
+fn block_of(key: u64) -> usize {
+    (key % LEAVES as u64) as usize
 }
 
 fn lower(tree: &mut [u64; 2 * LEAVES], block: usize, key: u64) {
@@ -336,7 +352,7 @@ pub struct Counts {
 struct State {
     matrix: Matrix,
     blocks: Blocks,
-    labels: [u32; 16 * ROOM],
+    labels: [u32; VERTICES],
     heaps: [u32; MAX_WORDS],
     tree: [u64; 2 * LEAVES],
 }
@@ -364,15 +380,18 @@ impl State {
         inserted
     }
 
+    /// The heap of block b, and what it looks up.
+    fn block(&mut self, b: usize) -> (&mut [u32], Window<'_>) {
+        let Block { row, rows, column, columns, words } = self.blocks.all[b];
+        let heap = &mut self.heaps[words..words + 2 + 3 * columns];
+        let lengths = &self.matrix[row..row + rows];
+        let labels = &self.labels[row..row + rows];
+        (heap, Window { lengths, labels, column, columns })
+    }
+
     fn activate_row(&mut self, b: usize, row: usize) -> u32 {
-        let block = self.blocks.all[b];
-        let window = Window {
-            lengths: &self.matrix[block.row..block.row + block.rows],
-            labels: &self.labels[block.row..block.row + block.rows],
-            column: block.column,
-        };
-        let heap = &mut self.heaps[block.words..block.words + 2 + 3 * block.columns];
-        let (inserted, sum) = activate(heap, &window, block.columns, row);
+        let (heap, window) = self.block(b);
+        let (inserted, sum) = activate(heap, &window, row);
         if let Some(sum) = sum {
             lower(&mut self.tree, b, key(sum, b));
         }
@@ -381,29 +400,24 @@ impl State {
 
     /// An extraction from block b: the stored column's place in its piece, the sum, how many intervals it inserts.
     fn extract(&mut self, b: usize) -> Option<(usize, u32, u32)> {
-        let block = self.blocks.all[b];
-        let window = Window {
-            lengths: &self.matrix[block.row..block.row + block.rows],
-            labels: &self.labels[block.row..block.row + block.rows],
-            column: block.column,
-        };
-        let heap = &mut self.heaps[block.words..block.words + 2 + 3 * block.columns];
+        let (heap, window) = self.block(b);
         let (k, column, sum) = least(heap, &window)?;
         let cut = Won { low: k, high: k + 1, first: column, last: column };
         let inserted = replace(heap, cut, None);
         let next = least(heap, &window).map_or(IDLE, |(_, _, sum)| key(sum, b));
+        let stored = window.column + column;
         raise(&mut self.tree, b, next);
-        Some((block.column + column, sum, inserted))
+        Some((stored, sum, inserted))
     }
 }
 
-/// Fills the labels of an accepted network, 256 places.
+/// Fills the labels of an accepted network, `LABELS` places.
 pub fn label(lent: &Lent, source: u32, labels: &mut [u32]) -> Counts {
     let places = places(lent);
     let mut state = State {
         matrix: reversed(lent),
         blocks: Blocks::of(lent),
-        labels: [0; 16 * ROOM],
+        labels: [0; VERTICES],
         heaps: [0; MAX_WORDS],
         tree: [IDLE; 2 * LEAVES],
     };
@@ -426,7 +440,7 @@ pub fn label(lent: &Lent, source: u32, labels: &mut [u32]) -> Counts {
         if chosen == IDLE {
             return counts;
         }
-        let b = (chosen % 1024) as usize;
+        let b = block_of(chosen);
         let Some((column, sum, inserted)) = state.extract(b) else {
             return counts;
         };

@@ -1,7 +1,7 @@
 //! The scope document's rules, written plainly in Rust from that document alone. The tests compare the proved library with them, and
 //! the benchmark measures it beside the two labellings here.
 //!
-//! - `network`: a plan, its blocks, the causes 4 to 8
+//! - `network`: bounds and sizes, a plan, its blocks, the causes 4 to 8, lent buffers
 //! - `text`: the layout of a text, read and written
 //! - `model`: the plain book of a block, and the labelling over one for each block
 //! - `entries`: what each entry of the library returns and leaves in its buffers

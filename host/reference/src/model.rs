@@ -1,8 +1,10 @@
 //! The plain book of a block, and the labelling over a fresh one for each block.
 
-use crate::network::{blocks, rectangle, Plan};
+use crate::network::{blocks, rectangle, Plan, LABELS, MAX_LENGTH, MAX_VERTICES};
 
-pub const MAX_LABEL: u32 = 25_499_745;
+/// The largest label of an activation: a shortest walk has fewer arcs than there are vertices.
+pub const MAX_LABEL: u32 = (MAX_VERTICES - 1) * MAX_LENGTH;
+/// The label of a vertex that is not reached, and of a place above n.
 pub const UNREACHED: u32 = u32::MAX;
 
 /// An interval: parent, first column, last column.
@@ -10,9 +12,9 @@ pub type Interval = [u32; 3];
 
 /// The activated rows with their labels in order, the extracted columns, the floor; and what all calls inserted and removed.
 pub struct Model {
-    pub lengths: Vec<Vec<u32>>,
-    pub activated: Vec<(usize, u32)>,
-    pub extracted: Vec<usize>,
+    lengths: Vec<Vec<u32>>,
+    activated: Vec<(usize, u32)>,
+    extracted: Vec<usize>,
     pub floor: u32,
     pub inserted: u32,
     pub removed: u32,
@@ -44,19 +46,19 @@ impl Model {
         sums.min_by_key(|&(_, sum)| sum)
     }
 
-    /// The longest runs of neighbouring columns with one parent.
+    /// The longest stretches of neighbouring columns with one parent.
     pub fn intervals(&self) -> Vec<Interval> {
-        let mut runs: Vec<Interval> = Vec::new();
+        let mut intervals: Vec<Interval> = Vec::new();
         for column in 0..self.columns() as u32 {
             let Some((row, _)) = self.parent(column as usize) else {
                 continue;
             };
-            match runs.last_mut() {
-                Some(run) if run[0] == row as u32 && run[2] + 1 == column => run[2] = column,
-                _ => runs.push([row as u32, column, column]),
+            match intervals.last_mut() {
+                Some([parent, _, last]) if *parent == row as u32 && *last + 1 == column => *last = column,
+                _ => intervals.push([row as u32, column, column]),
             }
         }
-        runs
+        intervals
     }
 
     fn judge(&self, kind: u32, row: u32, label: u32) -> u32 {
@@ -101,7 +103,7 @@ impl Model {
     }
 }
 
-/// What a labelling finds: the label of vertex v at v - 1 of 256 places, and the counts.
+/// What a labelling finds: the labels as they are lent, vertex v at v - 1, and the counts.
 #[derive(Clone, Debug, PartialEq, Eq)]
 pub struct Labelling {
     pub labels: Vec<u32>,
@@ -134,7 +136,7 @@ fn numbered_blocks(plan: &Plan) -> Vec<Numbered> {
 /// The labelling of a plan that is accepted.
 pub fn label_plan(plan: &Plan) -> Labelling {
     let mut all = numbered_blocks(plan);
-    let mut labels = vec![UNREACHED; 256];
+    let mut labels = vec![UNREACHED; LABELS];
     let (mut v, mut label, mut extracted) = (plan.source, 0, 0);
     loop {
         if labels[v as usize - 1] == UNREACHED {

@@ -1,11 +1,47 @@
-//! A plan as its pieces, the blocks of a piece, the causes 4 to 8, and a network in lent buffers.
+//! Bounds and buffer sizes, a plan as its pieces, the blocks of a piece, the causes 1 and 4 to 8, and a network in lent buffers.
 
 use std::ops::Range;
 
-pub const MAX_LENGTH: u32 = 99_999;
+// The bounds and the sizes of the lent buffers, as the scope document has them. They are the reference's own: it knows nothing of the
+// proved library, so that a wrong number there shows as a difference.
 
-/// How many vertices a piece has room for in the lent buffers.
-pub const ROOM: usize = 24;
+/// The most vertices of a network.
+pub const MAX_VERTICES: u32 = 256;
+/// The most pieces of a network.
+pub const MAX_PIECES: u32 = 16;
+/// The most vertices of a piece, rows of a session and columns of a session.
+pub const MAX_SIZE: u32 = 24;
+/// The largest length.
+pub const MAX_LENGTH: u32 = 99_999;
+/// The most calls of a session.
+pub const MAX_CALLS: u32 = 64;
+/// The most bytes of a text.
+pub const MAX_TEXT: usize = 60_000;
+
+/// How many vertices a piece, and how many lengths a row, has room for in the lent buffers.
+pub const ROOM: usize = MAX_SIZE as usize;
+/// Places of the buffer of sizes.
+pub const SIZES: usize = MAX_PIECES as usize;
+/// Places of the buffer of vertices.
+pub const VERTICES: usize = SIZES * ROOM;
+/// Places of the buffer of lengths.
+pub const LENGTHS: usize = SIZES * ROOM * ROOM;
+/// Places of the buffer of labels.
+pub const LABELS: usize = MAX_VERTICES as usize;
+/// Places of a session's rectangle.
+pub const RECTANGLE: usize = ROOM * ROOM;
+/// Places of a session's calls: kind, row and label of each.
+pub const CALLS: usize = 3 * MAX_CALLS as usize;
+/// Places of a session's answers: code, column and sum of each.
+pub const ANSWERS: usize = CALLS;
+/// Places of a session's intervals: parent, first and last column of each.
+pub const INTERVALS: usize = 3 * ROOM;
+/// Bytes of a field that is written.
+pub const COLUMNS: usize = 9;
+/// Bytes of the line that fields are written into: four of them.
+pub const LINE: usize = 4 * COLUMNS;
+/// Bytes of the longest listing: a line of four fields, and for each vertex a line of two.
+pub const LISTING: usize = LINE + 1 + LABELS * (2 * COLUMNS + 1);
 
 /// A piece: its vertices in clockwise order, and the length from each to each.
 #[derive(Clone, Debug, PartialEq, Eq)]
@@ -14,6 +50,7 @@ pub struct Piece {
     pub lengths: Vec<Vec<u32>>,
 }
 
+/// A network of vertices 1 to n, and the source to label it from.
 #[derive(Clone, Debug, PartialEq, Eq)]
 pub struct Plan {
     pub n: u32,
@@ -68,37 +105,48 @@ fn refuse_unless(holds: bool, number: u32) -> Result<(), u32> {
     }
 }
 
+/// Cause 4, of how many vertices and pieces there are.
 pub fn judge_bounds(n: u32, p: u32) -> Result<(), u32> {
-    refuse_unless((1..=256).contains(&n) && (1..=16).contains(&p), 4)
+    refuse_unless((1..=MAX_VERTICES).contains(&n) && (1..=MAX_PIECES).contains(&p), 4)
 }
 
+/// Cause 4, of how many vertices a piece has.
 pub fn judge_size(m: u32) -> Result<(), u32> {
-    refuse_unless((1..=24).contains(&m), 4)
+    refuse_unless((1..=MAX_SIZE).contains(&m), 4)
 }
 
+/// Cause 5, of the vertices of a piece.
 pub fn judge_vertices(n: u32, vertices: &[u32]) -> Result<(), u32> {
     let twice = (1..vertices.len()).any(|i| vertices[..i].contains(&vertices[i]));
     let inside = vertices.iter().all(|v| (1..=n).contains(v));
     refuse_unless(inside && !twice, 5)
 }
 
-/// The row of place `i`, which has its diagonal there.
+/// Cause 6, of the row of place `i`, which has its diagonal there.
 pub fn judge_row(i: usize, row: &[u32]) -> Result<(), u32> {
     refuse_unless(row.iter().all(|&l| l <= MAX_LENGTH) && row[i] == 0, 6)
 }
 
+/// Cause 7, of a piece.
 pub fn judge_blocks(piece: &Piece) -> Result<(), u32> {
     let all = blocks(piece.vertices.len());
     refuse_unless(all.iter().all(|b| is_monge(&rectangle(piece, b))), 7)
 }
 
+/// Cause 8.
 pub fn judge_source(n: u32, source: u32) -> Result<(), u32> {
     refuse_unless((1..=n).contains(&source), 8)
 }
 
 // ---- lent buffers
 
-/// A network as it is lent: 16 sizes, 384 vertices, 9,216 lengths.
+/// Cause 1, of the buffers of sizes, vertices and lengths.
+pub fn judge_places(sizes: &[u32], vertices: &[u32], lengths: &[u32]) -> Result<(), u32> {
+    let places = [sizes.len(), vertices.len(), lengths.len()];
+    refuse_unless(places == [SIZES, VERTICES, LENGTHS], 1)
+}
+
+/// A network as it is lent: how many vertices and pieces, and the three buffers, which may be of any length.
 #[derive(Clone, Debug, PartialEq, Eq)]
 pub struct Lent {
     pub n: u32,
@@ -114,9 +162,9 @@ impl Lent {
         let mut lent = Lent {
             n: plan.n,
             p: plan.pieces.len() as u32,
-            sizes: vec![unused; 16],
-            vertices: vec![unused; 16 * ROOM],
-            lengths: vec![unused; 16 * ROOM * ROOM],
+            sizes: vec![unused; SIZES],
+            vertices: vec![unused; VERTICES],
+            lengths: vec![unused; LENGTHS],
         };
         for (d, piece) in plan.pieces.iter().enumerate() {
             let m = piece.vertices.len();
@@ -130,9 +178,9 @@ impl Lent {
         lent
     }
 
+    /// Cause 1, of the three buffers.
     pub fn judge_places(&self) -> Result<(), u32> {
-        let places = [self.sizes.len(), self.vertices.len(), self.lengths.len()];
-        refuse_unless(places == [16, 384, 9216], 1)
+        judge_places(&self.sizes, &self.vertices, &self.lengths)
     }
 
     /// The pieces that the buffers hold, judged like a text: 4 to 7, piece by piece.
@@ -161,9 +209,9 @@ impl Lent {
 /// Where a vertex is not in a piece.
 pub const NO_PLACE: u8 = 255;
 
-/// The place of vertex v in each of the 16 pieces, at v - 1.
-pub fn places(lent: &Lent) -> [[u8; 16]; 256] {
-    let mut places = [[NO_PLACE; 16]; 256];
+/// The place of vertex v in each piece, at v - 1.
+pub fn places(lent: &Lent) -> [[u8; SIZES]; LABELS] {
+    let mut places = [[NO_PLACE; SIZES]; LABELS];
     for d in 0..lent.p as usize {
         for i in 0..lent.sizes[d] as usize {
             places[lent.vertices[ROOM * d + i] as usize - 1][d] = i as u8;

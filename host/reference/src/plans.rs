@@ -5,12 +5,13 @@
 //! may be put together from any rectangles that pass, each chosen for itself (`hostile`): these obey no triangle rule.
 
 use crate::model::{Model, MAX_LABEL};
-use crate::network::{blocks, Piece, Plan, MAX_LENGTH};
+use crate::network::{blocks, Piece, Plan, CALLS, MAX_LENGTH, MAX_VERTICES, RECTANGLE, ROOM, SIZES};
 
 /// SplitMix64.
 pub struct Rng(u64);
 
 impl Rng {
+    /// Numbers that follow from the seed.
     pub fn new(seed: u64) -> Rng {
         Rng(seed)
     }
@@ -27,10 +28,12 @@ impl Rng {
         (self.next() % u64::from(bound)) as u32
     }
 
+    /// A number from `low` to `high`, both included.
     pub fn from(&mut self, low: u32, high: u32) -> u32 {
         low + self.below(high - low + 1)
     }
 
+    /// One of the items, of which there are some.
     pub fn pick<T: Copy>(&mut self, items: &[T]) -> T {
         items[self.below(items.len() as u32) as usize]
     }
@@ -63,6 +66,7 @@ pub enum Kind {
     Free,
 }
 
+/// Every kind once.
 pub const KINDS: [Kind; 5] = [Kind::Zeros, Kind::Ties, Kind::Largest, Kind::Diagonal, Kind::Free];
 
 /// A rectangle that passes the check.
@@ -91,10 +95,10 @@ fn steps(rows: usize, columns: usize, term: u32, step: u32, rare: u32, rng: &mut
     let mut sums = vec![0; columns];
     let mut e = Vec::new();
     for row_term in row_terms {
-        let mut run = 0;
+        let mut along = 0;
         for sum in sums.iter_mut().rev() {
-            *sum += run;
-            run += rng.from(0, step) * u32::from(rng.below(rare) == 0);
+            *sum += along;
+            along += rng.from(0, step) * u32::from(rng.below(rare) == 0);
         }
         let entries = sums.iter().zip(&column_terms);
         e.push(entries.map(|(sum, term)| row_term + term + sum).collect());
@@ -179,24 +183,25 @@ fn clockwise(side: usize) -> Vec<(usize, usize)> {
 fn planar_table(side: usize, around: &[(usize, usize)], rng: &mut Rng) -> Vec<Vec<u32>> {
     const CLOSED: u32 = 10_000_000;
     let count = (side + 1) * (side + 1);
-    let mut run = vec![vec![CLOSED; count]; count];
+    let mut distances = vec![vec![CLOSED; count]; count];
     for (a, b, inside) in streets(side) {
         let one_way = if inside { rng.below(6) } else { 2 };
-        run[a][b] = if one_way == 0 { CLOSED } else { rng.from(40, 400) };
-        run[b][a] = if one_way == 1 { CLOSED } else { rng.from(40, 400) };
+        distances[a][b] = if one_way == 0 { CLOSED } else { rng.from(40, 400) };
+        distances[b][a] = if one_way == 1 { CLOSED } else { rng.from(40, 400) };
     }
-    for (k, from) in run.iter_mut().enumerate() {
+    for (k, from) in distances.iter_mut().enumerate() {
         from[k] = 0;
     }
     for middle in 0..count {
         for from in 0..count {
             for to in 0..count {
-                run[from][to] = run[from][to].min(run[from][middle] + run[middle][to]);
+                distances[from][to] =
+                    distances[from][to].min(distances[from][middle] + distances[middle][to]);
             }
         }
     }
     let at = |&(y, x): &(usize, usize)| y * (side + 1) + x;
-    let row = |from: &(usize, usize)| around.iter().map(|to| run[at(from)][at(to)]).collect();
+    let row = |from: &(usize, usize)| around.iter().map(|to| distances[at(from)][at(to)]).collect();
     around.iter().map(row).collect()
 }
 
@@ -220,7 +225,7 @@ fn thinned(mut plan: Plan, rng: &mut Rng) -> Plan {
         let row = |&i: &usize| kept.iter().map(|&j| piece.lengths[i][j]).collect();
         piece.lengths = kept.iter().map(row).collect();
     }
-    plan.n = rng.from(plan.n, 256);
+    plan.n = rng.from(plan.n, MAX_VERTICES);
     plan
 }
 
@@ -236,7 +241,7 @@ pub fn all(seed: u64) -> Vec<Plan> {
     }
     plans.push(city(4, 4, 6, rng));
     for kind in KINDS {
-        plans.push(hostile(256, &[24; 16], &[kind], rng));
+        plans.push(hostile(MAX_VERTICES, &[ROOM; SIZES], &[kind], rng));
         plans.push(hostile(24, &[24, 23, 1, 2, 24], &[kind], rng));
         plans.push(hostile(200, &[23, 1, 2], &[kind, Kind::Zeros], rng));
     }
@@ -253,7 +258,7 @@ pub fn all(seed: u64) -> Vec<Plan> {
 
 // ---- sessions
 
-/// A session: its rectangle in 24 rows of 24 and its calls, every place not used holding `unused`.
+/// A session with its rectangle and its calls as they are lent.
 #[derive(Clone, Debug)]
 pub struct Session {
     pub rows: u32,
@@ -263,18 +268,18 @@ pub struct Session {
     pub calls: Vec<u32>,
 }
 
-/// A session of one kind of rectangle. About one call in five is meant to be refused; the labels lie close to the floor.
+/// A session of one kind of rectangle, every place not used holding `unused`. About one call in five is meant to be refused; the labels lie close to the floor.
 pub fn session(kind: Kind, unused: u32, rng: &mut Rng) -> Session {
     let sides = [1, 2, 3, 5, 12, 23, 24];
     let (rows, columns) = (rng.pick(&sides), rng.pick(&sides));
     let count = rng.pick(&[0, 1, 10, 40, 63, 64, 64]);
     let e = rectangle(rows, columns, kind, rng);
-    let mut lengths = vec![unused; 576];
+    let mut lengths = vec![unused; RECTANGLE];
     for (i, row) in e.iter().enumerate() {
-        lengths[24 * i..24 * i + columns].copy_from_slice(row);
+        lengths[ROOM * i..][..columns].copy_from_slice(row);
     }
     let mut model = Model::new(e);
-    let mut calls = vec![unused; 192];
+    let mut calls = vec![unused; CALLS];
     for call in calls.chunks_mut(3).take(count) {
         call.copy_from_slice(&random_call(rows as u32, model.floor, rng));
         model.call(call[0], call[1], call[2]);

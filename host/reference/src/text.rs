@@ -1,7 +1,9 @@
 //! The layout of a text: fields of six bytes read, fields of nine columns written.
 
 use crate::model::label_plan;
-use crate::network::*;
+use crate::network::{
+    judge_blocks, judge_bounds, judge_row, judge_size, judge_source, judge_vertices, Piece, Plan, MAX_TEXT,
+};
 
 /// The number that six bytes say, or 3.
 pub fn field(bytes: &[u8]) -> Result<u32, u32> {
@@ -64,7 +66,7 @@ impl Reader<'_> {
 
 /// The plan that a text says, or the cause, 2 to 8.
 pub fn read(text: &[u8]) -> Result<Plan, u32> {
-    if text.len() > 60_000 {
+    if text.len() > MAX_TEXT {
         return Err(2);
     }
     let mut reader = Reader { text, at: 0 };

@@ -1,23 +1,18 @@
 //! The model against the scope document: the depot examples, and the causes that its table names.
 
-use reference::damage::{depot_with, text, texts, DEPOT};
-use reference::entries::*;
-use reference::model::{Model, UNREACHED};
-use reference::network::*;
+use reference::damage::{depot_with, text, texts, DEPOT, DEPOT_LISTING};
+use reference::entries::{check_network, label_network};
+use reference::model::{Model, MAX_LABEL, UNREACHED};
+use reference::network::{is_monge, Lent};
+use reference::network::{
+    ANSWERS, CALLS, INTERVALS, LABELS, LENGTHS, LINE, LISTING, RECTANGLE, SIZES, VERTICES,
+};
 use reference::number_of;
 use reference::text::{listing, read};
 
 #[test]
 fn p1_and_p2() {
-    let expected = [
-        "        1        4        8        8",
-        "        1        0",
-        "        2        3",
-        "        3        7",
-        "        4        5",
-        "        5        -",
-    ];
-    assert_eq!(listing(&text(&DEPOT)), text(&expected));
+    assert_eq!(listing(&text(&DEPOT)), text(&DEPOT_LISTING));
     let other_source = depot_with(&[(6, "     5")]);
     let first = b"        5        1        0        0\n";
     assert!(listing(&other_source).starts_with(first));
@@ -62,6 +57,14 @@ fn p6_to_p11() {
 }
 
 #[test]
+fn sizes_and_bounds_are_the_stated_ones() {
+    assert_eq!([SIZES, VERTICES, LENGTHS, LABELS], [16, 384, 9_216, 256]);
+    assert_eq!([RECTANGLE, CALLS, ANSWERS, INTERVALS], [576, 192, 192, 72]);
+    assert_eq!([LINE, LISTING], [36, 4_901]);
+    assert_eq!(MAX_LABEL, 25_499_745);
+}
+
+#[test]
 fn damaged_texts_give_their_number() {
     for (what, bytes, number) in texts() {
         assert_eq!(number_of(read(&bytes)), number, "{what}");
@@ -89,11 +92,11 @@ fn a_network_is_judged_in_the_stated_order() {
     assert_eq!(check(&|l| l.lengths[1] = 100_000), 6);
     assert_eq!(check(&|l| l.lengths[3] = 10), 7);
     assert_eq!(check(&|l| l.lengths[4] = u32::MAX), 0); // not read
-    let mut labels = [7; 256];
+    let mut labels = [7; LABELS];
     assert_eq!(label_network(&lent, 0, &mut labels), [8, 0, 0, 0]);
     assert_eq!(label_network(&lent, 6, &mut labels), [8, 0, 0, 0]);
-    assert_eq!(label_network(&lent, 1, &mut labels[..255]), [1, 0, 0, 0]);
-    assert_eq!(labels, [7; 256]);
+    assert_eq!(label_network(&lent, 1, &mut labels[..LABELS - 1]), [1, 0, 0, 0]);
+    assert_eq!(labels, [7; LABELS]);
     assert_eq!(label_network(&lent, 1, &mut labels), [0, 4, 8, 8]);
     assert_eq!(labels[..6], [0, 3, 7, 5, UNREACHED, UNREACHED]);
 }
