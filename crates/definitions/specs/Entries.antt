@@ -67,7 +67,7 @@ answersOf answers = padded answerPlaces 0 (flatMap (λ a. a .code ∷ a .column 
 abbrev pub intervalNumbers : Interval → List ℕ
 intervalNumbers (interval p f l) = p ∷ f ∷ l ∷ []
 
--- "their order is open": the program's order of the kept intervals is that of `intervals`, by rising first column, each once
+-- "their order is open": the program's order of the kept intervals is that of `intervals`, and `Rising`: each begins after the one before it ends
 abbrev pub keptOrder : List Interval → List Interval
 keptOrder kept = kept
 

@@ -16,10 +16,10 @@ use native.Mathlib.Omega.{arith}
 use borrow.Author.Tests.{eq-eqb, ne-eqb, eqb-true}
 use lib.Dec.{eqb}
 use lib.ListN.{length}
-use Rattle.definitions.specs.Model.{Best, Interval, interval, runs, sameInterval, isKept, countNew}
+use Rattle.definitions.specs.Model.{Best, Interval, interval, runs, sameInterval, isKept, countNew, Rising}
 use Rattle.basics.specs.Lists.{Every}
 use Rattle.basics.specs.Tests.{clash, and-left, and-right, Truth, holds, fails, truth}
-use Rattle.heap_laws.specs.Runs.{Rising, runs-rising}
+use Rattle.heap_laws.specs.Runs.{runs-rising}
 
 pub sameInterval-refl : (v : Interval) → sameInterval v v ≡ true
 unfolding sameInterval

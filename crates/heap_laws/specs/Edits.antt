@@ -14,10 +14,10 @@ use native.Mathlib.Nat.{le-refl, zero-add}
 use native.Mathlib.Omega.{arith}
 use borrow.Author.Tests.{lt-ltb, le-ltb, le-leb, lt-leb, ne-eqb}
 use lib.Dec.{ltb, leb}
-use Rattle.definitions.specs.Model.{Best, Interval, interval, runs, sameInterval, isKept, countNew}
+use Rattle.definitions.specs.Model.{Best, Interval, interval, runs, sameInterval, isKept, countNew, Rising}
 use Rattle.basics.specs.Tests.{Order, less, more, order, Truth, holds, fails, truth}
 use Rattle.basics.specs.Lists.{Every, every-snoc, every-imp}
-use Rattle.heap_laws.specs.Runs.{runs-same, Rising, runs-rising, IsRun, Longest, runs-longest}
+use Rattle.heap_laws.specs.Runs.{runs-same, runs-rising, IsRun, Longest, runs-longest}
 use Rattle.heap_laws.specs.Sides.{every-parts, Side, apart, meets, runs-side, Break, runs-break, runs-one}
 use Rattle.heap_laws.specs.Counting.{sameInterval-refl, isKept-append, Elsewhere, isKept-elsewhere, rising-elsewhere, countNew-append, countNew-tail}
 

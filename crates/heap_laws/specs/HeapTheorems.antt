@@ -20,7 +20,7 @@ use Rattle.definitions.specs.Limits.{sum}
 use Rattle.definitions.specs.Lists.{mem}
 use Rattle.definitions.specs.Network.{Rectangle}
 use Rattle.definitions.specs.Blocks.{Monge, isMonge}
-use Rattle.definitions.specs.Model.{by, parent, available, extract, Model, Interval, interval, intervals, isKept, Call, coded, judge, step, Trace, extend, trace}
+use Rattle.definitions.specs.Model.{by, parent, available, extract, Model, Interval, interval, intervals, isKept, Call, coded, judge, step, Trace, extend, trace, Rising}
 use Rattle.basics.specs.Lists.{Every}
 use Rattle.heap_laws.specs.Inequality as inequality
 use Rattle.heap_laws.specs.Least.{from-is, upTo-is}
@@ -28,7 +28,7 @@ use Rattle.heap_laws.specs.Parents as parents
 use Rattle.heap_laws.specs.Won.{won, won-between, Range, SomeRange, range}
 use Rattle.heap_laws.specs.Sound.{trace-sound, step-floor, won-available}
 use Rattle.heap_laws.specs.Calls.{Activates, trace-snoc, trace-activate}
-use Rattle.heap_laws.specs.Runs.{Rising, runs-rising, IsRun, Longest, runs-longest, runs-length}
+use Rattle.heap_laws.specs.Runs.{runs-rising, IsRun, Longest, runs-longest, runs-length}
 use Rattle.heap_laws.specs.Counting.{Distinct, runs-distinct}
 use Rattle.heap_laws.specs.Edits.{before, from, run-kept}
 use Rattle.heap_laws.specs.Activate as activation

@@ -1,7 +1,7 @@
 -- The longest runs of one parent among n columns from c on.
 --   runs-same runs-none        they depend on these columns only; there are none where nobody is a parent
 --   tag tag-is                 a parent as a number
---   Rising runs-rising         they stand in order, each after the one before it
+--   runs-rising                they stand in order, each after the one before it
 --   lookup lookup-runs         the parent of a column, read back from them
 --   IsRun runs-longest         each is a longest run
 --   runs-length                at most as many as columns
@@ -15,7 +15,7 @@ use native.Mathlib.Omega.{arith}
 use borrow.Author.Tests.{eq-eqb, eqb-true, le-leb, lt-leb}
 use lib.Dec.{eqb, leb}
 use lib.ListN.{length}
-use Rattle.definitions.specs.Model.{Best, nobody, by, Interval, interval, adjoins, joined, prepend, prependColumn, runs}
+use Rattle.definitions.specs.Model.{Best, nobody, by, Interval, interval, adjoins, joined, prepend, prependColumn, runs, Rising}
 use Rattle.basics.specs.Tests.{clash, and-left, and-right, split-at, Truth, holds, fails, truth}
 use Rattle.basics.specs.Lists.{Every, every-imp}
 
@@ -49,11 +49,6 @@ unfolding adjoins
 adjoin (interval p f l) (interval p′ f′ l′) t = (eqb-true p p′ (and-left (eqb p p′) (eqb (suc l) f′) t), eqb-true (suc l) f′ (and-right (eqb p p′) (eqb (suc l) f′) t))
 
 -- ---- in order
-
--- each begins after the one before it ends, the first not before column lo
-abbrev pub Rising : ℕ → List Interval → Type 0
-Rising lo [] = Unit {0}
-Rising lo (interval p f l ∷ vs) = (lo ≤ f) × (f ≤ l) × Rising (suc l) vs
 
 rising-wider : (lo lo′ : ℕ) (vs : List Interval) → lo′ ≤ lo → Rising lo vs → Rising lo′ vs
 rising-wider lo lo′ [] h g = tt

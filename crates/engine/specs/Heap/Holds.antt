@@ -20,14 +20,14 @@ use lib.Seq.{getD-set-other}
 use Rattle.definitions.specs.Limits.{maxSide, maxLength, maxLabel, rowPlaces}
 use Rattle.definitions.specs.Lists.{mem}
 use Rattle.definitions.specs.Blocks.{Monge}
-use Rattle.definitions.specs.Model.{Best, nobody, by, least, Activation, Model, fresh, isActivated, parent, available, Interval, intervals}
+use Rattle.definitions.specs.Model.{Best, nobody, by, least, Activation, Model, fresh, isActivated, parent, available, Interval, intervals, Rising}
 use Rattle.basics.specs.Tests.{clash, and-left, and-right, or-left, or-right, split-at, Truth, holds, fails, truth}
 use Rattle.basics.specs.Lists.{Every, every-at}
 use Rattle.heap_laws.specs.Least.{beats}
 use Rattle.heap_laws.specs.Parents.{none, rowAt, labelAt, parent-is, parent-row, available-parent, parents-rise}
 use Rattle.heap_laws.specs.Won.{won, won-later, won-earlier}
 use Rattle.heap_laws.specs.Sound.{Sound, fresh-sound}
-use Rattle.heap_laws.specs.Runs.{tag, tag-is, runs-none, Rising, runs-rising, IsRun, Longest, runs-longest, runs-length, lookup}
+use Rattle.heap_laws.specs.Runs.{tag, tag-is, runs-none, runs-rising, IsRun, Longest, runs-longest, runs-length, lookup}
 use Rattle.heap_laws.specs.Reading.{lookup-available}
 use Rattle.engine.specs.Heap.Words.{wordEnd, countOf, markOf, parentAt, firstAt, lastAt, intervalAt, span, kept, length-span}
 use Rattle.engine.specs.Heap.Search.{entry, sumAt, In, Laid, wins, test, Ready}
