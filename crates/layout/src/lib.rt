@@ -18,9 +18,7 @@ impl Prepared {
     // one for each vertex and piece
     pub const PLACES: usize = 4096;
 
-    // at most so many blocks, and so many numbers for each
-    pub const BLOCKS: usize = 736;
-
+    // the numbers of a block, and of all blocks, at most 736
     pub const PART: usize = 6;
 
     pub const PARTS: usize = 4416;

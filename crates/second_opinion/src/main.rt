@@ -23,7 +23,7 @@ use opinion::numbers::seed_of;
 use opinion::numbers::sum;
 use opinion::numbers::times;
 
-const NETWORKS: u32 = 4000;
+const NETWORKS: u32 = 2000;
 
 const SESSIONS: u32 = 4000;
 

@@ -1,6 +1,6 @@
 -- What the functions of the list return.
---   flattened threeAt splitIn    the list as numbers, an entry of such numbers
---   places noSplit splitAt       an entry of the list
+--   flattened                    the list as numbers
+--   places noSplit splitIn       an entry of such numbers
 --   firstSplit                   where the splits of a size begin
 use mathlib.Core.Bool.{cond}
 use mathlib.Core.List.{List, [], _∷_}
@@ -30,10 +30,6 @@ threeAt l k = record { first = getD l (3 * k) 0; middle = getD l (3 * k + 1) 0; 
 -- the k-th three of some numbers; past their end each place is 0
 unfoldable pub splitIn : List ℕ → ℕ → code.Split
 splitIn l k = cond (ltb k (length l / 3)) (threeAt l k) (places noSplit)
-
--- entry k of the list
-unfoldable pub splitAt : ℕ → code.Split
-splitAt k = places (getD allSplits k noSplit)
 
 -- how many splits stand before those of size m; all of them for a size that the list does not have
 unfoldable pub firstSplit : ℕ → ℕ

@@ -1,7 +1,7 @@
 // The halving of a piece, as a list of constants: the splits of all sizes from 1 to 24.
 ghost use mathlib.Core.Path.{_≡_};
 ghost use Rattle.definitions.specs.Blocks.{allSplits};
-ghost use Rattle.splits.specs.Table.{flattened, splitIn, splitAt, firstSplit};
+ghost use Rattle.splits.specs.Table.{flattened, splitIn, firstSplit};
 
 // A stretch of places, `first` up to `end`, cut at `middle`.
 pub struct Split {
@@ -84,13 +84,6 @@ pub fn split_in(list: &[u8], k: usize) -> Split
             end: 0,
         }
     }
-}
-
-// Split k of all.
-pub fn split_at(k: usize) -> Split
-    ensures { λ r. ⌜ r ≡ splitAt k ⌝ }
-{
-    split_in(&SPLITS, k)
 }
 
 // Where the splits of a piece of m places begin in the list: there are m - 1 of them. The list's end for a size that it does not have.
