@@ -13,13 +13,13 @@ use Rattle.heap_laws.specs.Sound.{Sound, fresh-sound, step-sound, extend
 use Rattle.heap_laws.specs.Runs.{runs-same}
 
 module _ (e e′ : Rectangle) (rows cols : ℕ) (same : (r c : ℕ) → r < rows → c < cols → e r c ≡ e′ r c) where
-  pub parent-agree : (xs : List Activation) → Every (λ a. a .row < rows) xs → (c : ℕ) → c < cols → parent e xs c ≡ parent e′ xs c
+  parent-agree : (xs : List Activation) → Every (λ a. a .row < rows) xs → (c : ℕ) → c < cols → parent e xs c ≡ parent e′ xs c
   unfolding parent least through
   parent-agree [] w c l = refl
   parent-agree (a ∷ xs) w c l = rw (same (a .row) c (w .0) l, parent-agree xs (w .1) c l)
 
   module _ (m : Model) (in-rows : Every (λ a. a .row < rows) (m .activated)) where
-    pub available-agree : (c : ℕ) → c < cols → available e m c ≡ available e′ m c
+    available-agree : (c : ℕ) → c < cols → available e m c ≡ available e′ m c
     unfolding available
     available-agree c l = rw (parent-agree (m .activated) in-rows c l)
 
@@ -30,7 +30,7 @@ module _ (e e′ : Rectangle) (rows cols : ℕ) (same : (r c : ℕ) → r < rows
     unfolding intervals
     intervals-agree = runs-same (available e m) (available e′ m) 0 cols (λ k _ h. available-agree k (omega arith))
 
-    pub step-agree : (k : Call) → step e rows cols m k ≡ step e′ rows cols m k
+    step-agree : (k : Call) → step e rows cols m k ≡ step e′ rows cols m k
     unfolding step
     step-agree k = rw leastFrom-agree
 

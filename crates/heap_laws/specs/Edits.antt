@@ -102,10 +102,10 @@ cut-runs w n a h =
     rw (zero-add, z) at
     (cut-side w 0 a (runs w 0 a) (runs w (0 + a) (n - a)) (runs w 0 (a + (n - a))) (runs-longest w 0 a) (runs-rising w (0 + a) (n - a)) (runs-side w 0 a (n - a)))
 
-pub before-runs : (w : ℕ → Best) (n a : ℕ) → a ≤ n → before a (runs w 0 n) ≡ runs w 0 a
+before-runs : (w : ℕ → Best) (n a : ℕ) → a ≤ n → before a (runs w 0 n) ≡ runs w 0 a
 before-runs w n a h = cut-runs w n a h .0
 
-pub from-runs : (w : ℕ → Best) (n a : ℕ) → a ≤ n → from a (runs w 0 n) ≡ runs w a (n - a)
+from-runs : (w : ℕ → Best) (n a : ℕ) → a ≤ n → from a (runs w 0 n) ≡ runs w a (n - a)
 from-runs w n a h = cut-runs w n a h .1
 
 -- ---- what a cut inserts

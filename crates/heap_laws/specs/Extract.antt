@@ -62,7 +62,7 @@ pub record LeastLeft (e : Rectangle) (cols : ℕ) (m : Model) (c s : ℕ) : Type
   pub no-less : (d p t : ℕ) → d < cols → available e m d ≡ by p t → s ≤ t
   pub no-lower : (d p t : ℕ) → d < c → available e m d ≡ by p t → s < t
 
-pub found-some : (e : Rectangle) (cols : ℕ) (m : Model) (c s : ℕ) → leastFrom (available e m) 0 cols ≡ by c s → LeastLeft e cols m c s
+found-some : (e : Rectangle) (cols : ℕ) (m : Model) (c s : ℕ) → leastFrom (available e m) 0 cols ≡ by c s → LeastLeft e cols m c s
 found-some e cols m c s h = go (rw h at (found-is (available e m) 0 cols))
   where
     go : Lowest (available e m) 0 cols c s → LeastLeft e cols m c s

@@ -84,7 +84,7 @@ unfoldable pub lookup : ℕ → List Interval → ℕ
 lookup c [] = 0
 lookup c (interval p f l ∷ vs) = cond (leb f c && leb c l) (suc p) (lookup c vs)
 
-pub lookup-none : (c lo : ℕ) (vs : List Interval) → c < lo → Rising lo vs → lookup c vs ≡ 0
+lookup-none : (c lo : ℕ) (vs : List Interval) → c < lo → Rising lo vs → lookup c vs ≡ 0
 unfolding lookup
 lookup-none c lo [] h g = refl
 lookup-none c lo (interval p f l ∷ vs) h g = simp (lt-leb f c (omega arith)) (lookup-none c (suc l) vs (omega arith) (g .2))

@@ -3,16 +3,15 @@
 --   place-in place-of                                  the place of a vertex
 --   different-at                                       places of a list of different numbers
 use mathlib.Core.Path.{_≡_, refl, sym, ap, _∙_}
-use mathlib.Core.Bool.{true, false, or-true}
-use mathlib.Core.List.{List, [], _∷_, map}
+use mathlib.Core.Bool.{false}
+use mathlib.Core.List.{List, [], _∷_}
 use mathlib.Core.Logic.{_≢_}
-use Prim.Native.Nat.{ℕ, zero, suc, _+_, _-_, _<_}
+use Prim.Native.Nat.{ℕ, zero, suc, _+_, _<_}
 use native.Mathlib.Nat.{add-zero, zero-add}
 use native.Mathlib.Omega.{arith}
 use borrow.Author.Tests.{eq-eqb, ne-eqb}
-use lib.Dec.{eqb}
 use lib.ListN.{getD, length}
-use Rattle.definitions.specs.Lists.{mem, upFrom, downTo}
+use Rattle.definitions.specs.Lists.{mem}
 use Rattle.definitions.specs.Model.{Best, nobody, by}
 use Rattle.definitions.specs.Labelling.{placeOf}
 use Rattle.basics.specs.Tests.{clash, Equal, equal, differ, equality}
