@@ -180,7 +180,7 @@ module _ (text s v l : List ℕ) (answer : ReadAnswer) (u : Understood text answ
 
 -- ---- the output
 
-pub listing-fits : (text : List ℕ) → length (listing text) ≤ listingPlaces
+listing-fits : (text : List ℕ) → length (listing text) ≤ listingPlaces
 unfolding listing planListing
 listing-fits text = go (seen (readText text))
   where

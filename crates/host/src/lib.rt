@@ -1,6 +1,5 @@
 // The entries for C and Rust, as one static library. Each promises what the entry that it calls promises.
 ghost use mathlib.Core.Path.{_≡_};
-ghost use lib.ListN.{length};
 ghost use Rattle.definitions.specs.Entries.{reading, labelNetwork, session, writeField};
 ghost use Rattle.answer.specs.Listing.{After as AfterListing, writeListing};
 ghost use Rattle.text.specs.Plans.{After};

@@ -4,15 +4,14 @@
 --   network-accepted                                           the buffers that the reader fills
 use mathlib.Core.Path.{_≡_, refl, sym, ap, _∙_, subst}
 use mathlib.Core.List.{List, [], _∷_, _++_, map, append-assoc}
-use Prim.Native.Nat.{ℕ, zero, suc, _+_, _-_, _*_, _≤_, _<_}
+use Prim.Native.Nat.{ℕ, zero, suc, _+_, _*_}
 use native.Mathlib.Omega.{arith}
 use lib.ListN.{getD, length, length-append}
 use Rattle.basics.specs.Lists.{Every, every-append}
-use Rattle.definitions.specs.Limits.{rowPlaces}
 use Rattle.definitions.specs.Lists.{total, firstCause}
 use Rattle.definitions.specs.Network.{Piece, sizeOf}
-use Rattle.definitions.specs.Judgement.{judgeBounds, judgeSize, judgeVertices, judgeRow, judgeRows, judgeBlocks, judgeSource, judgePiece, judgePieces, pieceAt, judgeFrom, judgeNetwork}
-use Rattle.definitions.specs.Text.{fieldBytes, Read, refused, value, _>>=_, require, readField, readFields, judgeLineEnd, readLine, lineBytes, readRows, readPiece, pieceBytes, readPieces, Plan, judgeEnd, readBody, readPlan, sizesOf, verticesOf, lengthsOf}
+use Rattle.definitions.specs.Judgement.{judgeBounds, judgeSize, judgeVertices, judgeRow, judgeRows, judgeBlocks, judgeSource, judgePiece, judgeFrom, judgeNetwork}
+use Rattle.definitions.specs.Text.{fieldBytes, value, require, readField, readFields, judgeLineEnd, readLine, lineBytes, readRows, readPiece, pieceBytes, readPieces, Plan, judgeEnd, readBody, readPlan, sizesOf, verticesOf, lengthsOf}
 use Rattle.checks.specs.Accepted.{size-in}
 use Rattle.text.specs.Reading.{pieceOf, value-same, bind-value, require-value}
 use Rattle.text.specs.Pieces.{Shaped}
@@ -45,7 +44,7 @@ rows-cons : (i : ℕ) (row : List ℕ) (rows : List (List ℕ)) → judgeRow i r
 unfolding judgeRows firstCause
 rows-cons i row rows e f = rw (e, f)
 
-pub rows-accepted : (text : List ℕ) (at m i k : ℕ) (rows : List (List ℕ)) → readRows text at m i k ≡ value rows → Rows m i k rows
+rows-accepted : (text : List ℕ) (at m i k : ℕ) (rows : List (List ℕ)) → readRows text at m i k ≡ value rows → Rows m i k rows
 unfolding readRows judgeRows
 rows-accepted text at m i zero rows e =
     let q : [] ≡ rows = value-same [] rows e in
@@ -74,7 +73,7 @@ piece-shaped n m vertices rows long size listed r blocks =
       judgement = rw (long, size, listed, r .judged-rows, blocks);
     }
 
-pub piece-accepted : (text : List ℕ) (n at : ℕ) (q : Piece) → readPiece text n at ≡ value q → Accepted n q
+piece-accepted : (text : List ℕ) (n at : ℕ) (q : Piece) → readPiece text n at ≡ value q → Accepted n q
 unfolding readPiece
 piece-accepted text n at q e =
     let a = bind-value (readField text at) _ q e in
@@ -96,7 +95,7 @@ pub record Pieces (n p : ℕ) (qs : List Piece) : Type 0 where
   pub count : length qs ≡ p
   pub each : Every (Accepted n) qs
 
-pub pieces-accepted : (text : List ℕ) (n at p : ℕ) (qs : List Piece) → readPieces text n at p ≡ value qs → Pieces n p qs
+pieces-accepted : (text : List ℕ) (n at p : ℕ) (qs : List Piece) → readPieces text n at p ≡ value qs → Pieces n p qs
 unfolding readPieces
 pieces-accepted text n at zero qs e = let q : [] ≡ qs = value-same [] qs e in subst (λ (x : List Piece). Pieces n 0 x) q (record { count = refl; each = tt })
 pieces-accepted text n at (suc p) qs e =

@@ -1,4 +1,5 @@
-use mathlib.Core.Path.{_≡_, refl, sym, ap, _∙_}
+-- `read_text`: the two refusals that leave the buffers, then the plan in buffers that are 0, cleared again if it is refused.
+use mathlib.Core.Path.{_≡_, sym, ap, _∙_}
 use Prim.Native.Nat.{ℕ}
 use lib.ListN.{length, replicate, length-replicate}
 use Rattle.definitions.specs.Limits.{sizePlaces, vertexPlaces, lengthPlaces}
@@ -8,49 +9,34 @@ use Rattle.text.specs.Plans.{after-buffers, after-long, after-done, afte
 use borrow.Author.Needs.{needs}
 use Rattle.text.proofs.read_text.Statement.{statement}
 use Rattle.text.proofs.read_text.Tie as tie
-use Rattle.text.proofs.read_text.Reads as reads
-use Rattle.text.proofs.read_text.Lts as lts
-use Rattle.checks.proofs.judge_buffers.Reads as judge-buffers-reads
-use Rattle.text.proofs.clear.Reads as clear-reads
-use Rattle.text.proofs.read_plan.Reads as read-plan-reads
-use Rattle.text.proofs.refusal.Reads as refusal-reads
 
--- src/lib.rt:320:9
 judge-buffers-requires : tie.Need-judge-buffers-requires
 judge-buffers-requires c κs = search needs
 
--- src/lib.rt:322:9
 refusal-requires : tie.Need-refusal-requires
 refusal-requires c κs = search needs
 
--- src/lib.rt:322:9
 returns : tie.Need-returns
 returns c =
     rw (c .refusal .ensures) (after-buffers _ _ _ _ _ (c .before .before .judge-buffers .ensures) (c .before .if1 .taken))
 
--- src/lib.rt:325:9
 refusal-requires-2 : tie.Need-refusal-requires-2
 refusal-requires-2 c κs = search needs
 
--- src/lib.rt:325:9
 returns-2 : tie.Need-returns-2
 returns-2 c =
     let k = sym (c .before .before .before .judge-buffers .ensures) ∙ c .before .before .if1 .left in
     rw (c .refusal2 .ensures) (after-long _ _ _ _ k (c .before .if2 .taken))
 
--- src/lib.rt:327:5
 clear-requires : tie.Need-clear-requires
 clear-requires c κs = search needs
 
--- src/lib.rt:328:5
 clear-requires-2 : tie.Need-clear-requires-2
 clear-requires-2 c κs = search needs
 
--- src/lib.rt:329:5
 clear-requires-3 : tie.Need-clear-requires-3
 clear-requires-3 c κs = search needs
 
--- src/lib.rt:330:9
 read-plan-requires : tie.Need-read-plan-requires
 read-plan-requires c κs =
     let k = sym (c .before .before .before .before .before .before .before .before .before .before .before .before .before .before .before .before .before .judge-buffers .ensures) ∙ c .before .before .before .before .before .before .before .before .before .before .before .before .before .before .before .before .if1 .left in
@@ -60,50 +46,39 @@ read-plan-requires c κs =
     let c3 = c .before .before .before .before .before .clear3 in
     held-none _ _ _ (c1 .ensures ∙ ap (λ (i : ℕ). replicate i 0) (n .0)) (c2 .ensures ∙ ap (λ (i : ℕ). replicate i 0) (n .1)) (c3 .ensures ∙ ap (λ (i : ℕ). replicate i 0) (n .2))
 
--- src/lib.rt:333:9
 same-length : tie.Need-same-length
 same-length c = search needs
 
--- src/lib.rt:333:9
 same-length-2 : tie.Need-same-length-2
 same-length-2 c = search needs
 
--- src/lib.rt:333:9
 same-length-3 : tie.Need-same-length-3
 same-length-3 c = search needs
 
--- src/lib.rt:333:9
 returns-3 : tie.Need-returns-3
 returns-3 c =
     let k = sym (c .before .before .before .before .before .before .before .before .before .before .before .before .before .before .before .before .before .before .before .before .before .before .before .before .before .judge-buffers .ensures) ∙ c .before .before .before .before .before .before .before .before .before .before .before .before .before .before .before .before .before .before .before .before .before .before .before .before .if1 .left in
     let r = c .before .before .before .before .before .before .before .read-plan in
     after-done _ _ _ _ k (c .before .before .before .before .before .before .before .before .before .before .before .before .before .before .before .before .before .before .before .before .before .before .before .if2 .left) _ _ _ _ (r .ensures) (c .if3 .taken)
 
--- src/lib.rt:335:5
 clear-requires-4 : tie.Need-clear-requires-4
 clear-requires-4 c κs = search needs
 
--- src/lib.rt:336:5
 clear-requires-5 : tie.Need-clear-requires-5
 clear-requires-5 c κs = search needs
 
--- src/lib.rt:337:5
 clear-requires-6 : tie.Need-clear-requires-6
 clear-requires-6 c κs = search needs
 
--- src/lib.rt:312:1
 same-length-4 : tie.Need-same-length-4
 same-length-4 c = search needs
 
--- src/lib.rt:312:1
 same-length-5 : tie.Need-same-length-5
 same-length-5 c = search needs
 
--- src/lib.rt:312:1
 same-length-6 : tie.Need-same-length-6
 same-length-6 c = search needs
 
--- src/lib.rt:312:1
 returns-4 : tie.Need-returns-4
 returns-4 c =
     let k = sym (c .before .before .before .before .before .before .before .before .before .before .before .before .before .before .before .before .before .before .before .before .before .before .before .before .before .before .before .before .before .before .before .before .before .before .before .before .before .judge-buffers .ensures) ∙ c .before .before .before .before .before .before .before .before .before .before .before .before .before .before .before .before .before .before .before .before .before .before .before .before .before .before .before .before .before .before .before .before .before .before .before .before .if1 .left in
