@@ -35,10 +35,10 @@ line-length text at k xs e =
     ap length (sym (value-same (a .0) xs (b .2))) ∙ fields-length text at k (a .0) (a .1)
 
 -- rows that were judged one by one
-pub record Rows (m i k : ℕ) (rows : List (List ℕ)) : Type 0 where
-  pub judged-rows : judgeRows i rows ≡ 0
-  pub count : length rows ≡ k
-  pub wide : Every (λ row. length row ≡ m) rows
+record Rows (m i k : ℕ) (rows : List (List ℕ)) : Type 0 where
+  judged-rows : judgeRows i rows ≡ 0
+  count : length rows ≡ k
+  wide : Every (λ row. length row ≡ m) rows
 
 rows-cons : (i : ℕ) (row : List ℕ) (rows : List (List ℕ)) → judgeRow i row ≡ 0 → judgeRows (suc i) rows ≡ 0 → judgeRows i (row ∷ rows) ≡ 0
 unfolding judgeRows firstCause
@@ -91,9 +91,9 @@ piece-accepted text n at q e =
     let same : pieceOf (c .0) (f .0) ≡ q = value-same (pieceOf (c .0) (f .0)) q (g .2) in
     subst (λ (x : Piece). Accepted n x) same (piece-shaped n m (c .0) (f .0) long size vertices r blocks)
 
-pub record Pieces (n p : ℕ) (qs : List Piece) : Type 0 where
-  pub count : length qs ≡ p
-  pub each : Every (Accepted n) qs
+record Pieces (n p : ℕ) (qs : List Piece) : Type 0 where
+  count : length qs ≡ p
+  each : Every (Accepted n) qs
 
 pieces-accepted : (text : List ℕ) (n at p : ℕ) (qs : List Piece) → readPieces text n at p ≡ value qs → Pieces n p qs
 unfolding readPieces

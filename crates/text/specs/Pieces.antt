@@ -1,6 +1,6 @@
 -- The pieces of a text, read one after the other into the lent buffers.
 --   Shaped              a piece as it is read: m vertices, m rows of m lengths
---   Held held-none held-more   the buffers hold the pieces read so far
+--   Held held-none      the buffers hold the pieces read so far
 --   Sized size-facts    what a size says
 --   Room Free free-of   room for one piece more
 --   TableRead table-judged   a table's rows with the check of its blocks

@@ -1,7 +1,7 @@
 -- Reading front to back, one step more: what a loop over fields, rows or pieces needs.
 --   after after-after                 what is read behind what is in hand
 --   value-same bind-value require-value   a value that was read, taken apart
---   fields-go fields-stop             one field more
+--   fields-turn fields-stop           one field more
 --   line-go line-stop line-open       a line from its fields
 --   judged                            a line that is judged when it is read
 --   rows-go rows-stop pieces-..       one row more, one piece more

@@ -69,13 +69,11 @@ add-t21 c = search needs
 
 mul-t20 : tie.Need-mul-t20
 mul-t20 c =
-    let f = size-in (c .before .before .before .before .before .before .before .before .before) in
     let few = table-in (c .before .before .before .before .before .before .before .before .before) in
     search needs
 
 add-t22 : tie.Need-add-t22
 add-t22 c =
-    let f = size-in (c .before .before .before .before .before .before .before .before .before) in
     let few = table-in (c .before .before .before .before .before .before .before .before .before) in
     search needs
 

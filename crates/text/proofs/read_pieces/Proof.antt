@@ -1,6 +1,6 @@
 -- `read_pieces`: the buffers hold the first d pieces, and the definition reads the others from the place reached on.
 use mathlib.Core.Path.{_≡_, refl}
-use Prim.Native.Nat.{_-_, _≤_, _<_}
+use Prim.Native.Nat.{_-_, _≤_}
 use native.Mathlib.Omega.{arith}
 use borrow.Author.Needs.{needs}
 use lib.ListN.{length}
@@ -16,16 +16,13 @@ abbrev μ-loop : tie.MeasureT-loop
 
 loop-holds : tie.Need-loop-holds Inv-loop μ-loop
 loop-holds c =
-    let p = c .before .before .before .before .pre in
-    let a = c .before .before .before .before .args in
-    (search needs, refl, refl, refl, pieces-begun (a .text .now) (a .n) (a .at) (a .p) _ _ _ (p .2) (p .0))
+    let s = c .before .before .before .before in
+    (search needs, refl, refl, refl, pieces-begun _ _ _ _ _ _ _ (s .pre .2) (s .pre .0))
 
 read-piece-requires : tie.Need-read-piece-requires Inv-loop μ-loop
 read-piece-requires c κs =
-    let l = c .before .before .before .before .loop in
-    let a = c .before .before .before .before .before .before .before .before .before .args in
     let p = c .before .before .before .before .before .before .before .before .before .pre in
-    let g = l .inv .4 in
+    let g = c .before .before .before .before .loop .inv .4 in
     (g .inside, omega arith, record { pieces = g .pieces; count = g .count; held = g .held })
 
 same-length : tie.Need-same-length Inv-loop μ-loop
@@ -39,12 +36,9 @@ same-length-3 c = search needs
 
 returns : tie.Need-returns Inv-loop μ-loop
 returns c =
-    let l = c .before .before .before .before .before .before .before .before .before .before .before .before .loop in
-    let a = c .before .before .before .before .before .before .before .before .before .before .before .before .before .before .before .before .before .args in
-    let g = l .inv .4 in
-    let r = c .before .before .before .before .before .before .before .read-piece in
-    let t : l .d < a .p = omega arith in
-    pieces-broken (a .text .now) (a .n) (a .at) (a .p) (l .d) (l .place) _ _ _ g t (r .result .number) _ _ (r .ensures (g .pieces) (g .count) (g .held)) (c .if1 .taken)
+    let t = c .before .before .before .before .before .before .before .before .before .before .before in
+    let g = t .before .loop .inv .4 in
+    pieces-broken _ _ _ _ _ _ _ _ _ g (t .loop-test .taken) _ _ _ (c .before .before .before .before .before .before .before .read-piece .ensures (g .pieces) (g .count) (g .held)) (c .if1 .taken)
 
 add-d : tie.Need-add-d Inv-loop μ-loop
 add-d c = search needs
@@ -54,12 +48,10 @@ loop-less c = search needs
 
 loop-again : tie.Need-loop-again Inv-loop μ-loop
 loop-again c =
-    let l = c .before .before .before .before .before .before .before .before .before .before .before .before .loop in
-    let a = c .before .before .before .before .before .before .before .before .before .before .before .before .before .before .before .before .before .args in
-    let g = l .inv .4 in
+    let t = c .before .before .before .before .before .before .before .before .before .before .before in
+    let g = t .before .loop .inv .4 in
     let r = c .before .before .before .before .before .before .before .read-piece in
-    let t : l .d < a .p = omega arith in
-    (search needs, search needs, search needs, search needs, pieces-turn (a .text .now) (a .n) (a .at) (a .p) (l .d) (l .place) _ _ _ g t (r .result .number) (r .result .next) _ _ _ (r .ensures (g .pieces) (g .count) (g .held)) (c .if1 .left))
+    (search needs, search needs, search needs, search needs, pieces-turn _ _ _ _ _ _ _ _ _ g (t .loop-test .taken) _ _ _ _ _ (r .ensures (g .pieces) (g .count) (g .held)) (c .if1 .left))
 
 same-length-4 : tie.Need-same-length-4 Inv-loop μ-loop
 same-length-4 c = search needs
@@ -72,10 +64,7 @@ same-length-6 c = search needs
 
 returns-2 : tie.Need-returns-2 Inv-loop μ-loop
 returns-2 c =
-    let l = c .before .loop in
-    let a = c .before .before .before .before .before .before .args in
-    let g = l .inv .4 in
-    pieces-ended (a .text .now) (a .n) (a .at) (a .p) (l .d) (l .place) _ _ _ g (omega arith)
+    pieces-ended _ _ _ _ _ _ _ _ _ (c .before .loop .inv .4) (omega arith)
 
 pub read-pieces-spec : {M : Type 1} → statement M
 read-pieces-spec =

@@ -1,6 +1,6 @@
 -- `read_rows`: the table holds the first i rows, and the definition reads the others from the place reached on.
 use mathlib.Core.Path.{_≡_, sym, ap, _∙_}
-use Prim.Native.Nat.{ℕ, _+_, _*_, _≤_, _<_, _-_}
+use Prim.Native.Nat.{ℕ, _+_, _*_, _≤_, _-_}
 use native.Mathlib.Omega.{arith}
 use borrow.Author.Needs.{needs}
 use lib.ListN.{length, length-replicate}
@@ -16,11 +16,17 @@ Inv-loop text at m table₀ i₀ place₀ table i place = (i ≤ m) × (length t
 abbrev μ-loop : tie.MeasureT-loop
 μ-loop text at m table₀ i₀ place₀ table i place = m - i
 
+table-long : (s : tie.Start Inv-loop μ-loop) → length (s .args .table .now) ≡ tablePlaces
+table-long s = ap length (s .pre .2) ∙ length-replicate {A = ℕ} tablePlaces 0
+
+-- row i lies in the table
+row-fits : (c : tie.In-loop Inv-loop μ-loop) → 24 * c .before .loop .i + c .before .before .before .before .args .m ≤ length (c .before .loop .table)
+row-fits c = omega (arith, c .loop-test .taken, c .before .before .before .before .pre .1, c .before .loop .inv .1)
+
 loop-holds : tie.Need-loop-holds Inv-loop μ-loop
 loop-holds c =
-    let a = c .before .before .args in
-    let p = c .before .before .pre in
-    (search needs, ap length (p .2) ∙ length-replicate {A = ℕ} tablePlaces 0, rows-begun (a .text .now) (a .at) (a .m) (a .table .now) (p .2) (p .0))
+    let s = c .before .before in
+    (search needs, table-long s, rows-begun _ _ _ _ (s .pre .2) (s .pre .0))
 
 mul-a : tie.Need-mul-a Inv-loop μ-loop
 mul-a c = search needs
@@ -45,21 +51,13 @@ read-row-requires c κs = search needs
 
 same-length : tie.Need-same-length Inv-loop μ-loop
 same-length c =
-    let l = c .before .before .before .before .before .before .loop in
-    let a = c .before .before .before .before .before .before .before .before .before .args in
-    let p = c .before .before .before .before .before .before .before .before .before .pre in
-    let f : 24 * l .i + a .m ≤ length (l .table) = omega arith in
-    part-kept (24 * l .i) (a .m) (l .table) (c .before .before .before .read-row .last .1 .1 .1 .0) (c .before .before .table .given .0) f ∙ l .inv .1 ∙ sym (ap length (p .2) ∙ length-replicate {A = ℕ} tablePlaces 0)
+    let t = c .before .before .before .before .before in
+    part-kept _ _ _ (c .before .before .before .read-row .last .1 .1 .1 .0) (c .before .before .table .given .0) (row-fits t) ∙ t .before .loop .inv .1 ∙ sym (table-long (t .before .before .before .before))
 
 returns : tie.Need-returns Inv-loop μ-loop
 returns c =
-    let l = c .before .before .before .before .before .before .loop in
-    let p = c .before .before .before .before .before .before .before .before .before .pre in
-    let a = c .before .before .before .before .before .before .before .before .before .args in
-    let t : l .i < a .m = omega arith in
-    let r = c .before .before .before .read-row in
-    let f : 24 * l .i + a .m ≤ length (l .table) = omega arith in
-    rows-broken (a .text .now) (a .at) (a .m) (l .i) (l .place) (l .table) (l .inv .2) (p .1) t (r .result) _ (r .last .1 .1 .1 .0) _ (part-size (24 * l .i) (a .m) (l .table) f) (r .ensures) (c .if1 .taken)
+    let t = c .before .before .before .before .before in
+    rows-broken _ _ _ _ _ _ (t .before .loop .inv .2) (t .before .before .before .before .pre .1) (t .loop-test .taken) _ _ _ _ (part-size _ _ _ (row-fits t)) (c .before .before .before .read-row .ensures) (c .if1 .taken)
 
 mul-place : tie.Need-mul-place Inv-loop μ-loop
 mul-place c = search needs
@@ -78,17 +76,15 @@ loop-less c = search needs
 
 loop-again : tie.Need-loop-again Inv-loop μ-loop
 loop-again c =
-    let l = c .before .before .before .before .before .before .loop in
-    let p = c .before .before .before .before .before .before .before .before .before .pre in
-    let a = c .before .before .before .before .before .before .before .before .before .args in
-    let t : l .i < a .m = omega arith in
+    let t = c .before .before .before .before .before in
+    let l = t .before .loop in
+    let s = t .before .before .before .before in
     let r = c .before .before .before .read-row in
-    let f : 24 * l .i + a .m ≤ length (l .table) = omega arith in
     let part = r .last .1 .1 .1 .0 in
-    let given = c .before .before .table .given .0 in
-    let e : length part ≡ a .m = part-long (24 * l .i) (a .m) (l .table) part given f in
-    let g = rows-turn (a .text .now) (a .at) (a .m) (l .i) (l .place) (l .table) (l .inv .2) (p .1) t (r .result) _ part (part-size (24 * l .i) (a .m) (l .table) f) (r .ensures) (c .if1 .left) e in
-    (search needs, part-kept (24 * l .i) (a .m) (l .table) part given f ∙ l .inv .1, rw (part-put (24 * l .i) (a .m) (l .table) part given f) g)
+    let lent = c .before .before .table .given .0 in
+    let long = part-long (24 * l .i) (s .args .m) (l .table) part lent (row-fits t) in
+    let g = rows-turn _ _ _ _ _ _ (l .inv .2) (s .pre .1) (t .loop-test .taken) _ _ part (part-size _ _ _ (row-fits t)) (r .ensures) (c .if1 .left) long in
+    (search needs, part-kept _ _ _ part lent (row-fits t) ∙ l .inv .1, rw (part-put (24 * l .i) (s .args .m) (l .table) part lent (row-fits t)) g)
 
 same-length-2 : tie.Need-same-length-2 Inv-loop μ-loop
 same-length-2 c = search needs
