@@ -29,7 +29,7 @@ use Rattle.text.specs.Pieces.{Shaped, Room, sizes-long, vertices-full, lengths-
 use Rattle.text.specs.Back.{pieces-back}
 use Rattle.text.specs.Plans.{planAnswer, After as AfterReading}
 use Rattle.text.specs.Accepted.{Accepted, Sound, plan-accepted, network-accepted}
-use Rattle.answer.specs.Listing.{listingPlaces, AfterListing, After, writeListing}
+use Rattle.answer.specs.Listing.{listingPlaces, AfterListing, writeListing}
 use Rattle.answer.specs.Output.{put, Put}
 use Rattle.answer.specs.Refusals.{Low, low-text, refusal-digit}
 use Rattle.answer.specs.Lines.{length-line, vertexLines, length-vertices}
@@ -180,7 +180,7 @@ module _ (text s v l : List ℕ) (answer : ReadAnswer) (u : Understood text answ
 
 -- ---- the output
 
-pub listing-fits : (text : List ℕ) → length (listing text) ≤ listingPlaces
+listing-fits : (text : List ℕ) → length (listing text) ≤ listingPlaces
 unfolding listing planListing
 listing-fits text = go (seen (readText text))
   where
@@ -194,18 +194,18 @@ listing-fits text = go (seen (readText text))
         rw (e, state-listing (plan .n) (plan .source) st few, length-append, length-line, length-vertices) (omega arith)
 
 module _ (text out : List ℕ) where
-  pub untouched : length out ≢ listingPlaces → After 0 out ≡ writeListing text out
+  pub untouched : length out ≢ listingPlaces → record { written = 0; out = out } ≡ writeListing text out
   unfolding writeListing hasPlaces
   untouched h = rw (ne-eqb _ _ h)
 
-  pub finished : length out ≡ listingPlaces → (xs : List ℕ) (end : ℕ) (left : List ℕ) → Put out 0 xs end left → xs ≡ listing text → After end left ≡ writeListing text out
+  pub finished : length out ≡ listingPlaces → (xs : List ℕ) (end : ℕ) (left : List ℕ) → Put out 0 xs end left → xs ≡ listing text → record { written = end; out = left } ≡ writeListing text out
   unfolding writeListing hasPlaces put
   finished h xs end left p e =
       let z : 0 + length xs ≡ length xs = omega arith in
       rw (eq-eqb _ _ h, p .behind, p .stands, z, e)
 
 -- for every output
-pub written-fits : (text out : List ℕ) (end : ℕ) (left : List ℕ) → After end left ≡ writeListing text out → end ≤ listingPlaces
+pub written-fits : (text out : List ℕ) (end : ℕ) (left : List ℕ) → record { written = end; out = left } ≡ writeListing text out → end ≤ listingPlaces
 unfolding writeListing
 written-fits text out end left e = rw (ap (λ (a : AfterListing). a .written) e) (go (truth (hasPlaces listingPlaces out)))
   where

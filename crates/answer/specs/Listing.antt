@@ -19,12 +19,9 @@ pub record AfterListing : Type 0 where
   pub written : ℕ
   pub out : List ℕ
 
-abbrev pub After : ℕ → List ℕ → AfterListing
-After written out = record { written = written; out = out }
-
 -- The listing of the text stands at the front, and behind it what stood there before. A buffer of another size is left as it was.
 unfoldable pub writeListing : List ℕ → List ℕ → AfterListing
 writeListing text out =
     cond (hasPlaces listingPlaces out)
-    (After (length (listing text)) (listing text ++ drop (length (listing text)) out))
-    (After 0 out)
+    (record { written = length (listing text); out = listing text ++ drop (length (listing text)) out })
+    (record { written = 0; out = out })

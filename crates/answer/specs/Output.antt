@@ -15,7 +15,7 @@ unfoldable pub put : List ℕ → ℕ → List ℕ → List ℕ
 put out at xs = take at out ++ xs ++ drop (at + length xs) out
 
 -- one behind the other
-pub put-append : (out : List ℕ) (at : ℕ) (xs ys : List ℕ) → at ≤ length out → put (put out at xs) (at + length xs) ys ≡ put out at (xs ++ ys)
+put-append : (out : List ℕ) (at : ℕ) (xs ys : List ℕ) → at ≤ length out → put (put out at xs) (at + length xs) ys ≡ put out at (xs ++ ys)
 unfolding put
 put-append out at xs ys h =
     let front = take at out ++ xs in

@@ -6,7 +6,7 @@ ghost use lib.ListN.{length};
 ghost use Rattle.definitions.specs.Limits.{maxVertices, labelPlaces};
 ghost use Rattle.definitions.specs.Text.{lineEnd};
 ghost use Rattle.definitions.specs.Entries.{listingLine, refusalLine};
-ghost use Rattle.answer.specs.Listing.{listingLineBytes, After, writeListing};
+ghost use Rattle.answer.specs.Listing.{listingLineBytes, writeListing};
 ghost use Rattle.answer.specs.Output.{Put};
 ghost use Rattle.answer.specs.Lines.{vertexLines};
 use bounds::Network;
@@ -81,7 +81,7 @@ fn put_refusal(out: &mut [u8], number: u32) -> usize
 // Writes what the program `labels` prints for a text to the front of the output, and returns how many bytes that is; what stands
 // behind them stays. An output of another size is left as it was, and 0 is returned.
 pub fn write_listing(text: &[u8], out: &mut [u8]) -> usize
-    ensures { λ r. ⌜ After r (now (out .exit)) ≡ writeListing (now (text .entry)) (now (out .entry)) ⌝ }
+    ensures { λ r. ⌜ record { written = r; out = now (out .exit) } ≡ writeListing (now (text .entry)) (now (out .entry)) ⌝ }
 {
     if out.len() != LISTING_BYTES {
         return 0;

@@ -4,18 +4,18 @@
 --   total-..                      sums
 --   Different counted at-most         different numbers, and how many there are below a bound
 --   padded-..                     a buffer filled from its front
-use mathlib.Core.Path.{_≡_, refl, sym, ap, _∙_, subst}
-use mathlib.Core.Bool.{Bool, true, false, cond, not, _&&_, _||_, or-assoc, or-false}
-use mathlib.Core.List.{List, [], _∷_, _++_, map, append-assoc}
+use mathlib.Core.Path.{_≡_, refl, sym, ap, _∙_}
+use mathlib.Core.Bool.{Bool, true, false, cond, not, _||_, or-assoc, or-false}
+use mathlib.Core.List.{List, [], _∷_, _++_, map}
 use mathlib.Core.Logic.{_⊎_, inl, inr, ⊎-elim, _≢_}
-use Prim.Native.Nat.{ℕ, zero, suc, _+_, _-_, _≤_, _<_}
-use native.Mathlib.Nat.{le-refl, le-trans, eq-or-lt-of-le}
+use Prim.Native.Nat.{ℕ, zero, suc, _+_, _≤_, _<_}
+use native.Mathlib.Nat.{le-refl, eq-or-lt-of-le}
 use native.Mathlib.Omega.{arith}
-use borrow.Author.Tests.{eq-eqb, ne-eqb, eqb-true, not-true}
-use lib.Dec.{eqb, ltb, leb}
-use lib.ListN.{getD, length, set, replicate, length-append, length-replicate}
+use borrow.Author.Tests.{eq-eqb, ne-eqb, not-true}
+use lib.Dec.{eqb}
+use lib.ListN.{getD, length, set, length-append, length-replicate}
 use Rattle.definitions.specs.Lists.{all, count, every, mem, different, total, padded}
-use Rattle.basics.specs.Tests.{clash, and-left, and-right, and-both, or-left, or-right, below-suc, Order, less, more, order, Truth, holds, fails, truth, Equal, equal, differ, equality}
+use Rattle.basics.specs.Tests.{clash, and-left, and-right, and-both, or-left, or-right, Truth, holds, fails, truth, Equal, equal, differ, equality}
 
 -- ---- a computed test
 

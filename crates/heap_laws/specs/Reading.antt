@@ -1,30 +1,28 @@
 -- What the intervals say of a column.
 --   lookup-available          the parent of an available column
 --   outside-extracted         once a row is activated, the columns outside every interval are the extracted ones
---   won-outside won-inside    whether a new row wins a column, by where the column lies
-use mathlib.Core.Path.{_≡_, refl, sym, _∙_}
+--   won-outside               a new row wins no column outside every interval
+use mathlib.Core.Path.{_≡_, refl}
 use mathlib.Core.Bool.{true, false}
 use mathlib.Core.List.{[]}
 use mathlib.Core.Logic.{_≢_}
 use Prim.Native.Nat.{ℕ, suc, _≤_, _<_}
 use native.Mathlib.Omega.{arith}
-use Rattle.definitions.specs.Limits.{sum, below}
 use Rattle.definitions.specs.Lists.{mem}
 use Rattle.definitions.specs.Network.{Rectangle}
 use Rattle.definitions.specs.Model.{Best, nobody, by, Model, parent, available, intervals}
 use Rattle.basics.specs.Tests.{Truth, holds, fails, truth}
-use Rattle.heap_laws.specs.Least.{beats}
-use Rattle.heap_laws.specs.Parents.{parent-nobody, rowLabel, parent-sum, available-parent}
+use Rattle.heap_laws.specs.Parents.{parent-nobody}
 use Rattle.heap_laws.specs.Won.{won}
 use Rattle.heap_laws.specs.Sound.{Sound, extracted-lost}
-use Rattle.heap_laws.specs.Runs.{tag, tag-is, lookup, lookup-runs}
+use Rattle.heap_laws.specs.Runs.{tag, lookup, lookup-runs}
 
 module _ (e : Rectangle) (rows cols : ℕ) (m : Model) (c : ℕ) (hc : c < cols) where
   pub lookup-available : lookup c (intervals e cols m) ≡ tag (available e m c)
   unfolding intervals
   lookup-available = lookup-runs (available e m) 0 cols c (omega arith) (omega arith)
 
-  pub outside-extracted : m .activated ≢ [] → lookup c (intervals e cols m) ≡ 0 → mem c (m .extracted) ≡ true
+  outside-extracted : m .activated ≢ [] → lookup c (intervals e cols m) ≡ 0 → mem c (m .extracted) ≡ true
   unfolding available tag
   outside-extracted some h = go (truth (mem c (m .extracted))) (parent e (m .activated) c) refl
     where
@@ -36,10 +34,3 @@ module _ (e : Rectangle) (rows cols : ℕ) (m : Model) (c : ℕ) (hc : c < cols)
   module _ (g : Sound e rows cols m) (r v : ℕ) where
     pub won-outside : m .activated ≢ [] → m .floor ≤ v → lookup c (intervals e cols m) ≡ 0 → won e (m .activated) r v c ≡ false
     won-outside some hv h = extracted-lost e rows cols m g r v c hv (outside-extracted some h)
-
-    pub won-inside : (p : ℕ) → lookup c (intervals e cols m) ≡ suc p → won e (m .activated) r v c ≡ below (sum v (e r c)) (sum (rowLabel p (m .activated)) (e p c))
-    unfolding won beats
-    won-inside p h =
-        let x = tag-is (available e m c) p (sym lookup-available ∙ h) in
-        let y = available-parent e m c p (x .0) (x .1) in
-        rw (y, parent-sum e (m .activated) c p (x .0) (g .once) y)

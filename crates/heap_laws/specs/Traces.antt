@@ -29,7 +29,7 @@ extend-refused e rows cols t k h = rw (step-refused e rows cols (t .model) k h, 
 
 -- ---- inserted = removed + kept
 
-pub call-balance : (e : Rectangle) (cols : ℕ) (m m′ : Model)
+call-balance : (e : Rectangle) (cols : ℕ) (m m′ : Model)
     → countNew (intervals e cols m′) (intervals e cols m) + length (intervals e cols m) ≡ countNew (intervals e cols m) (intervals e cols m′) + length (intervals e cols m′)
 unfolding intervals
 call-balance e cols m m′ = balance _ _ (runs-distinct (available e m′) 0 cols) (runs-distinct (available e m) 0 cols)

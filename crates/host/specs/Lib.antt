@@ -1,2 +1,5 @@
 -- What the exported entries promise beyond those that they call.
-pub mod Host
+--   Entry    the definition
+--   Laws     what the code leaves
+pub mod Entry
+pub mod Laws

@@ -1,11 +1,11 @@
-// The entries for C and Rust, as one static library. Each promises what the entry that it calls promises.
+// The entries for C and Rust, as one static library. Each promises what the entry that it calls promises; the field reader's value goes to a lent buffer,
+// since an enum does not cross to C.
 ghost use mathlib.Core.Path.{_≡_};
-ghost use lib.ListN.{length};
 ghost use Rattle.definitions.specs.Entries.{reading, labelNetwork, session, writeField};
-ghost use Rattle.answer.specs.Listing.{After as AfterListing, writeListing};
-ghost use Rattle.text.specs.Plans.{After};
+ghost use Rattle.answer.specs.Listing.{writeListing};
 ghost use Rattle.checks.specs.Lent.{judgeLent};
-ghost use Rattle.host.specs.Host.{AfterField, fieldEntry};
+ghost use Rattle.engine.specs.Promises.{Plain};
+ghost use Rattle.host.specs.Entry.{fieldEntry};
 use definitions::Field;
 use definitions::LabelAnswer;
 use definitions::ReadAnswer;
@@ -14,7 +14,7 @@ use definitions::SessionAnswer;
 // Six bytes at a place. The value goes to a buffer of one place: one of another size gets 1 and is left, and no field gets 3 and 0.
 #[no_mangle]
 pub extern "C" fn rabdzhine_read_field(text: &[u8], at: usize, value: &mut [u32]) -> u32
-    ensures { λ r. ⌜ AfterField r (now (value .exit)) ≡ fieldEntry (now (text .entry)) at (now (value .entry)) ⌝ }
+    ensures { λ r. ⌜ record { number = r; value = now (value .exit) } ≡ fieldEntry (now (text .entry)) at (now (value .entry)) ⌝ }
 {
     if value.len() != 1 {
         return 1;
@@ -43,7 +43,7 @@ pub extern "C" fn rabdzhine_read_text(
     vertices: &mut [u32],
     lengths: &mut [u32],
 ) -> ReadAnswer
-    ensures { λ r. ⌜ After r (now (sizes .exit)) (now (vertices .exit)) (now (lengths .exit)) ≡ reading (now (text .entry)) (now (sizes .entry)) (now (vertices .entry)) (now (lengths .entry)) ⌝ }
+    ensures { λ r. ⌜ record { answer = r; sizes = now (sizes .exit); vertices = now (vertices .exit); lengths = now (lengths .exit) } ≡ reading (now (text .entry)) (now (sizes .entry)) (now (vertices .entry)) (now (lengths .entry)) ⌝ }
 {
     text::read_text(text, sizes, vertices, lengths)
 }
@@ -86,14 +86,15 @@ pub extern "C" fn rabdzhine_label_network(
     source: u32,
     labels: &mut [u32],
 ) -> LabelAnswer
-    ensures { λ r. ⌜ record { answer = r; labels = now (labels .exit) } ≡ labelNetwork n p (now (sizes .entry)) (now (vertices .entry)) (now (lengths .entry)) source (now (labels .entry)) ⌝ }
+    ensures labelled { λ r. ⌜ record { answer = r; labels = now (labels .exit) } ≡ labelNetwork n p (now (sizes .entry)) (now (vertices .entry)) (now (lengths .entry)) source (now (labels .entry)) ⌝ }
+    ensures plain { λ r. ⌜ (r .number ≡ 0 → Plain n p (now (sizes .entry)) (now (vertices .entry)) (now (lengths .entry)) source r (now (labels .exit))) ⌝ }
 {
     engine::label_network(n, p, sizes, vertices, lengths, source, labels)
 }
 
 #[no_mangle]
 pub extern "C" fn rabdzhine_write_listing(text: &[u8], out: &mut [u8]) -> usize
-    ensures { λ r. ⌜ AfterListing r (now (out .exit)) ≡ writeListing (now (text .entry)) (now (out .entry)) ⌝ }
+    ensures { λ r. ⌜ record { written = r; out = now (out .exit) } ≡ writeListing (now (text .entry)) (now (out .entry)) ⌝ }
 {
     answer::write_listing(text, out)
 }

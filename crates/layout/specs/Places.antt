@@ -4,18 +4,18 @@
 --   held places-hold             the last place of a vertex in a piece
 --   place-found found-place      with different vertices: the place of the vertex, and nothing else
 use mathlib.Core.Path.{_≡_, refl, sym, ap, _∙_}
-use mathlib.Core.Bool.{true, cond, or-true}
+use mathlib.Core.Bool.{cond}
 use mathlib.Core.Logic.{_⊎_, inl, inr, _≢_}
 use mathlib.Core.List.{List, [], _∷_}
 use Prim.Native.Nat.{ℕ, zero, suc, _+_, _-_, _*_, _≤_, _<_}
 use native.Mathlib.Nat.{le-refl}
 use native.Mathlib.Omega.{arith}
-use borrow.Author.Tests.{eq-eqb, le-leb, leb-true}
+use borrow.Author.Tests.{le-leb, leb-true}
 use lib.Dec.{eqb, leb}
 use lib.ListN.{getD, length, set, drop, length-set, length-replicate, getD-replicate}
 use lib.Seq.{getD-set-same, getD-set-other, getD-take, getD-drop}
 use Rattle.definitions.specs.Limits.{maxVertices, maxPieces, rowPlaces}
-use Rattle.definitions.specs.Lists.{mem, within}
+use Rattle.definitions.specs.Lists.{within}
 use Rattle.definitions.specs.Network.{sizeOf}
 use Rattle.definitions.specs.Judgement.{pieceAt}
 use Rattle.basics.specs.Tests.{clash, and-left, below-suc, Truth, holds, fails, truth, Equal, equal, differ, equality}

@@ -7,7 +7,7 @@ ghost use lib.ListN.{length, getD};
 ghost use lib.Seq.{sets};
 ghost use Rattle.definitions.specs.Blocks.{allSplits};
 ghost use Rattle.splits.specs.Table.{flattened};
-ghost use Rattle.layout.specs.Layout.{sizeAt, turned, matrixRow, matrixOf, storePlace, storePlaces, placesOf, splitOf, splitPlacements, piecePlacements, Stored, partsOf, blocksUpTo, firstsOf};
+ghost use Rattle.layout.specs.Layout.{sizeAt, turned, matrixRow, matrixOf, storePlace, storePlaces, placesOf, splitOf, splitPlacements, piecePlacements, Stored, partsOf, firstsOf};
 use bounds::Network;
 use splits::Split;
 

@@ -15,7 +15,6 @@ use opinion::labelling::Labelled;
 use opinion::labelling::label_by_rules;
 use opinion::model::count_new;
 use opinion::model::part;
-use opinion::numbers::fill;
 use opinion::numbers::get;
 use opinion::numbers::largest;
 use opinion::numbers::put;

@@ -4,15 +4,14 @@
 --   network-accepted                                           the buffers that the reader fills
 use mathlib.Core.Path.{_≡_, refl, sym, ap, _∙_, subst}
 use mathlib.Core.List.{List, [], _∷_, _++_, map, append-assoc}
-use Prim.Native.Nat.{ℕ, zero, suc, _+_, _-_, _*_, _≤_, _<_}
+use Prim.Native.Nat.{ℕ, zero, suc, _+_, _*_}
 use native.Mathlib.Omega.{arith}
 use lib.ListN.{getD, length, length-append}
 use Rattle.basics.specs.Lists.{Every, every-append}
-use Rattle.definitions.specs.Limits.{rowPlaces}
 use Rattle.definitions.specs.Lists.{total, firstCause}
 use Rattle.definitions.specs.Network.{Piece, sizeOf}
-use Rattle.definitions.specs.Judgement.{judgeBounds, judgeSize, judgeVertices, judgeRow, judgeRows, judgeBlocks, judgeSource, judgePiece, pieceAt, judgeFrom, judgeNetwork}
-use Rattle.definitions.specs.Text.{fieldBytes, Read, refused, value, _>>=_, require, readField, readFields, judgeLineEnd, readLine, lineBytes, readRows, readPiece, pieceBytes, readPieces, Plan, judgeEnd, readBody, readPlan, sizesOf, verticesOf, lengthsOf}
+use Rattle.definitions.specs.Judgement.{judgeBounds, judgeSize, judgeVertices, judgeRow, judgeRows, judgeBlocks, judgeSource, judgePiece, judgeFrom, judgeNetwork}
+use Rattle.definitions.specs.Text.{fieldBytes, value, require, readField, readFields, judgeLineEnd, readLine, lineBytes, readRows, readPiece, pieceBytes, readPieces, Plan, judgeEnd, readBody, readPlan, sizesOf, verticesOf, lengthsOf}
 use Rattle.basics.specs.Causes.{size-in}
 use Rattle.text.specs.Reading.{pieceOf, value-same, bind-value, require-value}
 use Rattle.text.specs.Pieces.{Shaped}
@@ -36,16 +35,16 @@ line-length text at k xs e =
     ap length (sym (value-same (a .0) xs (b .2))) ∙ fields-length text at k (a .0) (a .1)
 
 -- rows that were judged one by one
-pub record Rows (m i k : ℕ) (rows : List (List ℕ)) : Type 0 where
-  pub judged-rows : judgeRows i rows ≡ 0
-  pub count : length rows ≡ k
-  pub wide : Every (λ row. length row ≡ m) rows
+record Rows (m i k : ℕ) (rows : List (List ℕ)) : Type 0 where
+  judged-rows : judgeRows i rows ≡ 0
+  count : length rows ≡ k
+  wide : Every (λ row. length row ≡ m) rows
 
 rows-cons : (i : ℕ) (row : List ℕ) (rows : List (List ℕ)) → judgeRow i row ≡ 0 → judgeRows (suc i) rows ≡ 0 → judgeRows i (row ∷ rows) ≡ 0
 unfolding judgeRows firstCause
 rows-cons i row rows e f = rw (e, f)
 
-pub rows-accepted : (text : List ℕ) (at m i k : ℕ) (rows : List (List ℕ)) → readRows text at m i k ≡ value rows → Rows m i k rows
+rows-accepted : (text : List ℕ) (at m i k : ℕ) (rows : List (List ℕ)) → readRows text at m i k ≡ value rows → Rows m i k rows
 unfolding readRows judgeRows
 rows-accepted text at m i zero rows e =
     let q : [] ≡ rows = value-same [] rows e in
@@ -74,7 +73,7 @@ piece-shaped n m vertices rows long size listed r blocks =
       judgement = rw (long, size, listed, r .judged-rows, blocks);
     }
 
-pub piece-accepted : (text : List ℕ) (n at : ℕ) (q : Piece) → readPiece text n at ≡ value q → Accepted n q
+piece-accepted : (text : List ℕ) (n at : ℕ) (q : Piece) → readPiece text n at ≡ value q → Accepted n q
 unfolding readPiece
 piece-accepted text n at q e =
     let a = bind-value (readField text at) _ q e in
@@ -92,11 +91,11 @@ piece-accepted text n at q e =
     let same : pieceOf (c .0) (f .0) ≡ q = value-same (pieceOf (c .0) (f .0)) q (g .2) in
     subst (λ (x : Piece). Accepted n x) same (piece-shaped n m (c .0) (f .0) long size vertices r blocks)
 
-pub record Pieces (n p : ℕ) (qs : List Piece) : Type 0 where
-  pub count : length qs ≡ p
-  pub each : Every (Accepted n) qs
+record Pieces (n p : ℕ) (qs : List Piece) : Type 0 where
+  count : length qs ≡ p
+  each : Every (Accepted n) qs
 
-pub pieces-accepted : (text : List ℕ) (n at p : ℕ) (qs : List Piece) → readPieces text n at p ≡ value qs → Pieces n p qs
+pieces-accepted : (text : List ℕ) (n at p : ℕ) (qs : List Piece) → readPieces text n at p ≡ value qs → Pieces n p qs
 unfolding readPieces
 pieces-accepted text n at zero qs e = let q : [] ≡ qs = value-same [] qs e in subst (λ (x : List Piece). Pieces n 0 x) q (record { count = refl; each = tt })
 pieces-accepted text n at (suc p) qs e =

@@ -1,13 +1,12 @@
 -- The pieces read back from the buffers that hold them: what the labelling is lent is what the text says.
 use mathlib.Core.Path.{_≡_, refl, sym, ap, _∙_}
 use mathlib.Core.List.{List, [], _∷_, _++_, map, map-append, flatMap, append-assoc}
-use Prim.Native.Nat.{ℕ, zero, suc, _+_, _-_, _*_, _≤_, _<_}
-use native.Mathlib.Numerals.{add-one}
+use Prim.Native.Nat.{ℕ, suc, _+_, _-_, _*_}
 use native.Mathlib.Omega.{arith}
 use lib.ListN.{getD, length, take, drop, replicate, length-append, length-map}
 use lib.Seq.{take-at, drop-at, getD-at, drop-drop}
-use Rattle.basics.specs.Lists.{Every, every-append, length-padded}
-use Rattle.definitions.specs.Limits.{sizePlaces, vertexPlaces, lengthPlaces, rowPlaces, tablePlaces}
+use Rattle.basics.specs.Lists.{Every, every-append}
+use Rattle.definitions.specs.Limits.{lengthPlaces, rowPlaces, tablePlaces}
 use Rattle.definitions.specs.Lists.{padded, upFrom}
 use Rattle.definitions.specs.Network.{Piece, sizeOf}
 use Rattle.definitions.specs.Judgement.{pieceAt, piecesOf}

@@ -1,5 +1,5 @@
 -- What the parts of the text reader promise: the number that they return, and what they leave, against what the definition reads.
-use mathlib.Core.Path.{_≡_, refl}
+use mathlib.Core.Path.{_≡_}
 use mathlib.Core.Logic.{_≢_}
 use mathlib.Core.List.{List, flatMap}
 use Prim.Native.Nat.{ℕ, _+_, _*_, _≤_}
@@ -13,14 +13,6 @@ use Rattle.definitions.specs.Text.{Read, refused, value, lineBytes}
 pub record Came {A : Type 0} (read : Read A) (number : ℕ) (Shows : A → Type 0) : Type 0 where
   pub done : number ≡ 0 → (a : A) × (read ≡ value a) × Shows a
   pub stopped : number ≢ 0 → read ≡ refused number
-
--- the part holds the numbers
-abbrev pub Holds : List ℕ → List ℕ → Type 0
-Holds out xs = out ≡ xs
-
--- the number is the one read
-abbrev pub Is : ℕ → ℕ → Type 0
-Is x y = x ≡ y
 
 -- a table of m rows of m lengths, read from a place of the text on
 pub record RowsLeft (text : List ℕ) (at m : ℕ) (table : List ℕ) (rows : List (List ℕ)) : Type 0 where

@@ -1,21 +1,21 @@
 -- The pieces of a text, read one after the other into the lent buffers.
 --   Shaped              a piece as it is read: m vertices, m rows of m lengths
---   Held held-none held-more   the buffers hold the pieces read so far
---   table-clear         the next table's places are 0
+--   Held held-none      the buffers hold the pieces read so far
 --   Sized size-facts    what a size says
---   Room                room for one piece more
+--   Room Free free-of   room for one piece more
 --   TableRead table-judged   a table's rows with the check of its blocks
+--   SizedLeft sized-..   what a piece leaves behind its size
 --   PieceLeft piece-..   what one piece leaves
 --   PiecesGoing pieces-begun pieces-turn pieces-broken   the loop over the pieces
 use mathlib.Core.Path.{_≡_, refl, sym, ap, _∙_}
 use mathlib.Core.Logic.{_≢_}
-use mathlib.Core.List.{List, [], _∷_, _++_, map, map-append, flatMap, append-assoc, append-nil}
+use mathlib.Core.List.{List, [], _∷_, _++_, map, map-append, flatMap, append-nil}
 use Prim.Native.Nat.{ℕ, zero, suc, _+_, _-_, _*_, _≤_, _<_}
 use native.Mathlib.Nat.{mul-le-mul}
 use native.Mathlib.Numerals.{add-one}
 use native.Mathlib.Omega.{arith}
-use lib.ListN.{getD, length, take, drop, set, replicate, length-append, length-map}
-use lib.Seq.{take-at, drop-at, set-split, drop-drop}
+use lib.ListN.{length, take, drop, set, replicate, length-append, length-map}
+use lib.Seq.{drop-at, set-split, drop-drop}
 use borrow.Author.Tests.{le-leb}
 use Rattle.basics.specs.Buffers.{flatMap-snoc}
 use Rattle.basics.specs.Lists.{Every, every-imp, every-snoc, length-padded, total-append}
@@ -24,14 +24,14 @@ use Rattle.definitions.specs.declared.Field.the-variants.{Number, Malformed}
 use Rattle.definitions.specs.Limits.{sizePlaces, vertexPlaces, lengthPlaces, rowPlaces, tablePlaces}
 use Rattle.definitions.specs.Lists.{padded, total, within}
 use Rattle.definitions.specs.Network.{Piece, sizeOf}
-use Rattle.definitions.specs.Text.{Read, refused, value, require, fieldBytes, fieldAt, fieldCause, readField, readLine, lineBytes, readRows, readPiece, pieceBytes, readPieces, sizesOf, verticesOf, tableOf, lengthsOf}
+use Rattle.definitions.specs.Text.{refused, value, require, fieldAt, fieldCause, readField, readLine, lineBytes, readRows, readPiece, pieceBytes, readPieces, sizesOf, verticesOf, tableOf, lengthsOf}
 use Rattle.definitions.specs.Judgement.{judgeSize, judgeVertices, judgeBlocks}
 use Rattle.checks.specs.Lent.{judgeTable}
 use Rattle.basics.specs.Causes.{size-in}
 use Rattle.checks.specs.Pieces.{table-blocks}
 use Rattle.monge.specs.Matrix.{rowsIn}
-use Rattle.text.specs.Outcomes.{Came, Holds, Is, RowsLeft}
-use Rattle.text.specs.Reading.{after, after-after, after-none, value-same, bind-value, require-value, field-in, judged, judged-stop, pieceOf, piece-size, piece-vertices, piece-rows, piece-go, pieces-go, pieces-stop}
+use Rattle.text.specs.Outcomes.{Came, RowsLeft}
+use Rattle.text.specs.Reading.{after, after-after, after-none, value-same, bind-value, require-value, field-in, judged, judged-stop, pieceOf, readSized, piece-stop, piece-go, vertices-stop, table-stop, table-go, pieces-go, pieces-stop}
 use Rattle.text.specs.Buffers.{put, put-padded, padded-inner}
 use Rattle.text.specs.Steps.{came-out, came-go, came-judged}
 use Rattle.text.specs.Rows.{rows-back, line-end-in}
@@ -113,7 +113,7 @@ module _ (qs : List Piece) (q : Piece) (sizes vertices lengths : List ℕ) (held
       rw (held .lengths-hold, flatMap-snoc tableOf qs q)
       (put-padded lengthPlaces (flatMap tableOf qs) (tableOf q) (tablePlaces * d) n (omega (arith, table-long q shape)))
 
-  pub held-more : Held (qs ++ q ∷ []) (set sizes d (sizeOf q)) (put vertices (rowPlaces * d) (q .vertices)) (put lengths (tablePlaces * d) (tableOf q))
+  held-more : Held (qs ++ q ∷ []) (set sizes d (sizeOf q)) (put vertices (rowPlaces * d) (q .vertices)) (put lengths (tablePlaces * d) (tableOf q))
   held-more = record {
     shaped = every-snoc Shaped qs q (held .shaped) shape;
     sizes-hold = more-sizes;
@@ -128,13 +128,12 @@ take-replicate n zero h = refl
 take-replicate zero (suc k) h = absurd (omega arith)
 take-replicate (suc n) (suc k) h = ap (λ (l : List ℕ). 0 ∷ l) (take-replicate n k (omega arith))
 
-pub table-clear : (qs : List Piece) (sizes vertices lengths : List ℕ) → Held qs sizes vertices lengths → (d : ℕ) → length qs ≡ d → d < sizePlaces
-    → take (tablePlaces * d + tablePlaces - tablePlaces * d) (drop (tablePlaces * d) lengths) ≡ replicate tablePlaces 0
+table-clear : (qs : List Piece) (sizes vertices lengths : List ℕ) → Held qs sizes vertices lengths → (d : ℕ) → length qs ≡ d → d < sizePlaces
+    → take tablePlaces (drop (tablePlaces * d) lengths) ≡ replicate tablePlaces 0
 unfolding lengthsOf padded
 table-clear qs sizes vertices lengths held d count room =
     let n : length (flatMap tableOf qs) ≡ tablePlaces * d = tables-long qs (held .shaped) ∙ ap (λ (k : ℕ). tablePlaces * k) count in
-    let z : tablePlaces * d + tablePlaces - tablePlaces * d ≡ tablePlaces = (omega arith) in
-    rw (held .lengths-hold, drop-at (flatMap tableOf qs) (replicate (lengthPlaces - length (flatMap tableOf qs)) 0) (tablePlaces * d) n, z)
+    rw (held .lengths-hold, drop-at (flatMap tableOf qs) (replicate (lengthPlaces - length (flatMap tableOf qs)) 0) (tablePlaces * d) n)
     (take-replicate (lengthPlaces - length (flatMap tableOf qs)) tablePlaces (omega (arith, n)))
 
 -- ---- a size
@@ -154,7 +153,7 @@ field-value text at m e =
     go (Number x) q z = field-in text at x q
     go Malformed q z = absurd (omega (arith, sym (ap fieldCause q) ∙ z))
 
-pub size-facts : (text : List ℕ) (at c m : ℕ) → Came (judged judgeSize (readField text at)) c (Is m) → c ≡ 0 → Sized text at m
+pub size-facts : (text : List ℕ) (at c m : ℕ) → Came (judged judgeSize (readField text at)) c (λ x. m ≡ x) → c ≡ 0 → Sized text at m
 unfolding judged
 size-facts text at c m came z =
     let d = came .done z in
@@ -218,57 +217,90 @@ module _ (d : ℕ) (sizes vertices lengths : List ℕ) (room : Room d sizes vert
   unfolding lengthsOf
   lengths-full = ap length (room .held .lengths-hold) ∙ length-padded lengthPlaces 0 _ (omega (arith, room .count, tables-long (room .pieces) (room .held .shaped)))
 
-left-behind : (text : List ℕ) (at m : ℕ) (vs table : List ℕ) (rows : List (List ℕ)) → length vs ≡ m → 1 ≤ m → m ≤ 24 → RowsLeft text (at + lineBytes (suc m)) m table rows
-    → (qs : List Piece) (s v l : List ℕ) (d : ℕ) → length qs ≡ d → d < sizePlaces → Held qs s v l
-    → PieceLeft text at qs (at + 6 * m + 7 + m * (6 * m + 1)) (set s d m) (put v (rowPlaces * d) vs) (put l (tablePlaces * d) table) (pieceOf vs rows)
-unfolding lineBytes pieceBytes sizeOf tableOf
-left-behind text at m vs table rows long low high left qs s v l d count room held =
-    let q = pieceOf vs rows in
-    let shape : Shaped q = record { low = rw long low; high = rw long high; tall = left .tall ∙ sym long; wide = rw long (left .wide) } in
-    record {
-      held = rw (left .held, ← long) (held-more qs q s v l held shape d count room);
-      reached = rw long (omega arith);
-      inside = omega (arith, left .inside);
-    }
+-- the places that a piece behind d others is read into: all are there, and those of its table are 0
+pub record Free (d : ℕ) (vertices lengths : List ℕ) : Type 0 where
+  pub all-vertices : length vertices ≡ vertexPlaces
+  pub all-lengths : length lengths ≡ lengthPlaces
+  pub clear : take tablePlaces (drop (tablePlaces * d) lengths) ≡ replicate tablePlaces 0
 
--- a piece, from its parts
-module _ (text : List ℕ) (n at c m : ℕ) (size : Came (judged judgeSize (readField text at)) c (Is m)) where
+pub free-of : (d : ℕ) (sizes vertices lengths : List ℕ) → Room d sizes vertices lengths → d < sizePlaces → Free d vertices lengths
+free-of d sizes vertices lengths room below = record {
+  all-vertices = vertices-full d sizes vertices lengths room (omega arith);
+  all-lengths = lengths-full d sizes vertices lengths room (omega arith);
+  clear = table-clear (room .pieces) sizes vertices lengths (room .held) d (room .count) below;
+}
+
+-- a piece of m vertices, with its vertices and its table in their places behind d pieces
+pub record SizedLeft (text : List ℕ) (at m d : ℕ) (vertices lengths vertices′ lengths′ : List ℕ) (q : Piece) : Type 0 where
+  pub shape : Shaped q
+  pub size : sizeOf q ≡ m
+  pub vertices-put : vertices′ ≡ put vertices (rowPlaces * d) (q .vertices)
+  pub lengths-put : lengths′ ≡ put lengths (tablePlaces * d) (tableOf q)
+  pub inside : at + pieceBytes q ≤ length text
+
+module _ (text : List ℕ) (n at m k b : ℕ) (vs : List ℕ) (same : k ≡ m) (line : Came (judged (judgeVertices n) (readLine text (at + 6) k)) b (λ xs. vs ≡ xs)) where
+  pub sized-unlisted : (P : Piece → Type 0) → b ≢ 0 → Came (readSized text n at m) b P
+  sized-unlisted P h = came-out (readSized text n at m) P b h (vertices-stop text n at m b ((rw same at line) .stopped h))
+
+  module _ (fine : b ≡ 0) where
+    listed : judged (judgeVertices n) (readLine text (at + 6) m) ≡ value vs
+    listed = let d = (rw same at line) .done fine in d .1 ∙ ap value (sym (d .2))
+
+    -- where the rows begin
+    pub rows-place : at + 6 * (m + 1) + 1 ≤ length text
+    rows-place = omega (arith, line-end-in (judgeVertices n) text (at + 6) m vs listed)
+
+    module _ (long : length vs ≡ m) (f : ℕ) (table : List ℕ) (read : TableRead text (at + 6 * (m + 1) + 1) m f table) where
+      where-rows : at + 6 * (m + 1) + 1 ≡ at + lineBytes (suc m)
+      unfolding lineBytes
+      where-rows = omega arith
+
+      rows-came : Came (judged (λ rows. judgeBlocks (pieceOf vs rows)) (readRows text (at + lineBytes (suc m)) m 0 m)) f (RowsLeft text (at + lineBytes (suc m)) m table)
+      rows-came = rw where-rows at (read vs long)
+
+      module _ (low : 1 ≤ m) (high : m ≤ 24) (d : ℕ) (v l : List ℕ) where
+        sized-left : (rows : List (List ℕ)) → RowsLeft text (at + lineBytes (suc m)) m table rows → SizedLeft text at m d v l (put v (rowPlaces * d) vs) (put l (tablePlaces * d) table) (pieceOf vs rows)
+        unfolding lineBytes pieceBytes sizeOf tableOf
+        sized-left rows left = record {
+          shape = record { low = rw long low; high = rw long high; tall = left .tall ∙ sym long; wide = rw long (left .wide) };
+          size = long;
+          vertices-put = refl;
+          lengths-put = ap (λ (t : List ℕ). put l (tablePlaces * d) t) (left .held);
+          inside = rw long (omega (arith, left .inside));
+        }
+
+        pub sized-read : Came (readSized text n at m) f (SizedLeft text at m d v l (put v (rowPlaces * d) vs) (put l (tablePlaces * d) table))
+        sized-read = record {
+          done = λ z. let w = rows-came .done z in (pieceOf vs (w .0), table-go text n at m vs listed (w .0) (w .1), sized-left (w .0) (w .2));
+          stopped = λ h. table-stop text n at m vs listed f (rows-came .stopped h);
+        }
+
+-- a piece, from its size and what follows
+module _ (text : List ℕ) (n at c m : ℕ) (size : Came (judged judgeSize (readField text at)) c (λ x. m ≡ x)) where
   pub piece-unsized : (P : Piece → Type 0) → c ≢ 0 → Came (readPiece text n at) c P
-  piece-unsized P h = came-out (readPiece text n at) P c h (piece-size text n at c (size .stopped h))
+  piece-unsized P h = came-out (readPiece text n at) P c h (piece-stop text n at c (size .stopped h))
 
-  module _ (ok : c ≡ 0) (k b : ℕ) (vs : List ℕ) (same : k ≡ m) (line : Came (judged (judgeVertices n) (readLine text (at + 6) k)) b (Holds vs)) where
-    sized : judged judgeSize (readField text at) ≡ value m
-    sized = let d = size .done ok in d .1 ∙ ap value (sym (d .2))
+  module _ (ok : c ≡ 0) (b d : ℕ) (v l v′ l′ : List ℕ) (rest : Came (readSized text n at m) b (SizedLeft text at m d v l v′ l′)) where
+    sized : readPiece text n at ≡ readSized text n at m
+    sized = let w = size .done ok in piece-go text n at m (w .1 ∙ ap value (sym (w .2)))
 
-    pub piece-unlisted : (P : Piece → Type 0) → b ≢ 0 → Came (readPiece text n at) b P
-    piece-unlisted P h = came-out (readPiece text n at) P b h (piece-vertices text n at m sized b ((rw same at line) .stopped h))
+    pub piece-unread : (P : Piece → Type 0) → b ≢ 0 → Came (readPiece text n at) b P
+    piece-unread P h = came-out (readPiece text n at) P b h (sized ∙ rest .stopped h)
 
-    module _ (fine : b ≡ 0) where
-      listed : judged (judgeVertices n) (readLine text (at + 6) m) ≡ value vs
-      listed = let d = (rw same at line) .done fine in d .1 ∙ ap value (sym (d .2))
-
-      -- where the rows begin
-      pub rows-place : at + 6 * m + 7 ≤ length text
-      rows-place = omega (arith, line-end-in (judgeVertices n) text (at + 6) m vs listed)
-
-      module _ (long : length vs ≡ m) (f : ℕ) (table : List ℕ) (read : TableRead text (at + 6 * m + 7) m f table) where
-        where-rows : at + 6 * m + 7 ≡ at + lineBytes (suc m)
-        unfolding lineBytes
-        where-rows = omega arith
-
-        rows-came : Came (judged (λ rows. judgeBlocks (pieceOf vs rows)) (readRows text (at + lineBytes (suc m)) m 0 m)) f (RowsLeft text (at + lineBytes (suc m)) m table)
-        rows-came = rw where-rows at (read vs long)
-
-        pub piece-unchecked : (P : Piece → Type 0) → f ≢ 0 → Came (readPiece text n at) f P
-        piece-unchecked P h = came-out (readPiece text n at) P f h (piece-rows text n at m sized vs listed f (rows-came .stopped h))
-
-        -- behind the d pieces that the buffers hold
-        pub piece-read : f ≡ 0 → 1 ≤ m → m ≤ 24 → (qs : List Piece) (s v l : List ℕ) (d : ℕ) → length qs ≡ d → d < sizePlaces → Held qs s v l
-            → Came (readPiece text n at) 0 (PieceLeft text at qs (at + 6 * m + 7 + m * (6 * m + 1)) (set s d m) (put v (rowPlaces * d) vs) (put l (tablePlaces * d) table))
-        piece-read z low high qs s v l d count room held =
-            let w = rows-came .done z in
-            came-go (readPiece text n at) _ (pieceOf vs (w .0)) (piece-go text n at m sized vs listed (w .0) (w .1))
-            (left-behind text at m vs table (w .0) long low high (w .2) qs s v l d count room held)
+    -- behind the d pieces that the buffers hold
+    pub piece-read : b ≡ 0 → (qs : List Piece) (s : List ℕ) → length qs ≡ d → d < sizePlaces → Held qs s v l
+        → Came (readPiece text n at) 0 (PieceLeft text at qs (at + 6 * (m + 1) + 1 + m * (6 * m + 1)) (set s d m) v′ l′)
+    unfolding lineBytes pieceBytes
+    piece-read z qs s count room held =
+        let w = rest .done z in
+        let left = w .2 in
+        let reached : at + 6 * (m + 1) + 1 + m * (6 * m + 1) ≡ at + pieceBytes (w .0) = rw (left .size) (omega arith) in
+        came-go (readPiece text n at) _ (w .0) (sized ∙ w .1)
+        (record {
+          held = rw (← left .size, left .vertices-put, left .lengths-put) (held-more qs (w .0) s v l held (left .shape) d count room);
+          reached = reached;
+          inside = omega (arith, reached, left .inside);
+        })
 
 -- d pieces are in the buffers, and the next begins at a place of the text
 pub record PiecesGoing (text : List ℕ) (n at p d place : ℕ) (sizes vertices lengths : List ℕ) : Type 0 where

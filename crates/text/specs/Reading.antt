@@ -1,19 +1,19 @@
 -- Reading front to back, one step more: what a loop over fields, rows or pieces needs.
 --   after after-after                 what is read behind what is in hand
 --   value-same bind-value require-value   a value that was read, taken apart
---   fields-go fields-stop             one field more
+--   fields-turn fields-stop           one field more
 --   line-go line-stop line-open       a line from its fields
 --   judged                            a line that is judged when it is read
 --   rows-go rows-stop pieces-..       one row more, one piece more
+--   readSized piece-.. vertices-stop table-..   a piece, part by part
 use mathlib.Core.Path.{_≡_, refl, sym, ap, _∙_}
-use mathlib.Core.Bool.{Bool, true, false, cond}
-use mathlib.Core.List.{List, [], _∷_, _++_, append-assoc, append-nil}
+use mathlib.Core.List.{List, [], _∷_, _++_, append-assoc}
 use mathlib.Core.Logic.{_≢_}
 use Prim.Native.Nat.{ℕ, zero, suc, _+_, _-_, _*_, _≤_, _<_}
 use native.Mathlib.Omega.{arith}
 use borrow.Author.Tests.{leb-true, eq-eqb, ne-eqb}
-use lib.Dec.{eqb, leb}
-use lib.ListN.{getD, length, take, drop, set}
+use lib.Dec.{leb}
+use lib.ListN.{getD, length, take, set}
 use lib.Seq.{take-suc-set}
 use native.Mathlib.Numerals.{add-one}
 use Rattle.definitions.specs.declared.Field.{Field}
@@ -21,7 +21,7 @@ use Rattle.definitions.specs.declared.Field.the-variants.{Number, Malformed}
 use Rattle.basics.specs.Tests.{Truth, holds, fails, truth}
 use Rattle.definitions.specs.Network.{Piece}
 use Rattle.definitions.specs.Judgement.{judgeSize, judgeVertices, judgeRow, judgeBlocks}
-use Rattle.definitions.specs.Text.{require, readRows, readPiece, pieceBytes, readPieces, fieldBytes, fieldAt, fieldOf, Read, refused, value, _>>=_, readField, readFields, judgeLineEnd, readLine, lineBytes}
+use Rattle.definitions.specs.Text.{require, readRows, readPiece, pieceBytes, readPieces, fieldBytes, fieldAt, Read, refused, value, _>>=_, readField, readFields, judgeLineEnd, readLine, lineBytes}
 
 -- what is in hand, and then what is read
 unfoldable pub after : {A : Type 0} → List A → Read (List A) → Read (List A)
@@ -71,7 +71,7 @@ field-in text at x e = go (truth (leb (at + 6) (length text)))
     go (holds t) = leb-true (at + 6) (length text) t
     go (fails t) = let bad : Malformed ≡ Number x = simp t at e in let z : _≡_ {A = ℕ} 0 1 = cc in absurd (omega arith)
 
-pub fields-go : (text : List ℕ) (at k x : ℕ) → fieldAt text at ≡ Number x → readFields text at (suc k) ≡ after (x ∷ []) (readFields text (at + fieldBytes) k)
+fields-go : (text : List ℕ) (at k x : ℕ) → fieldAt text at ≡ Number x → readFields text at (suc k) ≡ after (x ∷ []) (readFields text (at + fieldBytes) k)
 unfolding readFields after
 fields-go text at k x e = rw (field-go text at x e)
 
@@ -169,45 +169,51 @@ module _ (text : List ℕ) (at m i k : ℕ) where
 abbrev pub pieceOf : List ℕ → List (List ℕ) → Piece
 pieceOf vertices rows = record { vertices = vertices; rows = rows }
 
+-- the rest of a piece, whose size is m
+unfoldable pub readSized : List ℕ → ℕ → ℕ → ℕ → Read Piece
+readSized text n at m = do
+  vertices ← readLine text (at + fieldBytes) m
+  _ ← require (judgeVertices n vertices)
+  rows ← readRows text (at + lineBytes (suc m)) m 0 m
+  _ ← require (judgeBlocks (pieceOf vertices rows))
+  value (pieceOf vertices rows)
+
 module _ (text : List ℕ) (n at : ℕ) where
-  -- what follows the size, and what follows the vertices
-  rest-rows : ℕ → List ℕ → Read Piece
-  rest-rows m vertices = do
+  piece-by : readPiece text n at ≡ _>>=_ (judged judgeSize (readField text at)) (readSized text n at)
+  unfolding readPiece readSized
+  piece-by = judged-bind judgeSize (readField text at) (readSized text n at)
+
+  pub piece-stop : (k : ℕ) → judged judgeSize (readField text at) ≡ refused k → readPiece text n at ≡ refused k
+  piece-stop k e = piece-by ∙ rw e
+
+  pub piece-go : (m : ℕ) → judged judgeSize (readField text at) ≡ value m → readPiece text n at ≡ readSized text n at m
+  piece-go m e = piece-by ∙ rw e
+
+module _ (text : List ℕ) (n at m : ℕ) where
+  -- what follows the vertices
+  rest-rows : List ℕ → Read Piece
+  rest-rows vertices = do
     rows ← readRows text (at + lineBytes (suc m)) m 0 m
     _ ← require (judgeBlocks (pieceOf vertices rows))
     value (pieceOf vertices rows)
 
-  rest-vertices : ℕ → Read Piece
-  rest-vertices m = do
-    vertices ← readLine text (at + fieldBytes) m
-    _ ← require (judgeVertices n vertices)
-    rest-rows m vertices
+  vertices-by : readSized text n at m ≡ _>>=_ (judged (judgeVertices n) (readLine text (at + fieldBytes) m)) rest-rows
+  unfolding readSized rest-rows
+  vertices-by = judged-bind (judgeVertices n) (readLine text (at + fieldBytes) m) rest-rows
 
-  piece-by : readPiece text n at ≡ _>>=_ (judged judgeSize (readField text at)) rest-vertices
-  unfolding readPiece rest-vertices rest-rows
-  piece-by = judged-bind judgeSize (readField text at) rest-vertices
+  pub vertices-stop : (k : ℕ) → judged (judgeVertices n) (readLine text (at + fieldBytes) m) ≡ refused k → readSized text n at m ≡ refused k
+  vertices-stop k e = vertices-by ∙ rw e
 
-  pub piece-size : (k : ℕ) → judged judgeSize (readField text at) ≡ refused k → readPiece text n at ≡ refused k
-  piece-size k e = piece-by ∙ rw e
+  module _ (vertices : List ℕ) (listed : judged (judgeVertices n) (readLine text (at + fieldBytes) m) ≡ value vertices) where
+    table-by : readSized text n at m ≡ _>>=_ (judged (λ rows. judgeBlocks (pieceOf vertices rows)) (readRows text (at + lineBytes (suc m)) m 0 m)) (λ rows. value (pieceOf vertices rows))
+    unfolding rest-rows
+    table-by = vertices-by ∙ rw listed (judged-bind (λ rows. judgeBlocks (pieceOf vertices rows)) (readRows text (at + lineBytes (suc m)) m 0 m) (λ rows. value (pieceOf vertices rows)))
 
-  module _ (m : ℕ) (sized : judged judgeSize (readField text at) ≡ value m) where
-    vertices-by : readPiece text n at ≡ _>>=_ (judged (judgeVertices n) (readLine text (at + fieldBytes) m)) (rest-rows m)
-    unfolding rest-vertices
-    vertices-by = piece-by ∙ rw sized (judged-bind (judgeVertices n) (readLine text (at + fieldBytes) m) (rest-rows m))
+    pub table-stop : (k : ℕ) → judged (λ rows. judgeBlocks (pieceOf vertices rows)) (readRows text (at + lineBytes (suc m)) m 0 m) ≡ refused k → readSized text n at m ≡ refused k
+    table-stop k e = table-by ∙ rw e
 
-    pub piece-vertices : (k : ℕ) → judged (judgeVertices n) (readLine text (at + fieldBytes) m) ≡ refused k → readPiece text n at ≡ refused k
-    piece-vertices k e = vertices-by ∙ rw e
-
-    module _ (vertices : List ℕ) (listed : judged (judgeVertices n) (readLine text (at + fieldBytes) m) ≡ value vertices) where
-      rows-of-piece : readPiece text n at ≡ _>>=_ (judged (λ rows. judgeBlocks (pieceOf vertices rows)) (readRows text (at + lineBytes (suc m)) m 0 m)) (λ rows. value (pieceOf vertices rows))
-      unfolding rest-rows
-      rows-of-piece = vertices-by ∙ rw listed (judged-bind (λ rows. judgeBlocks (pieceOf vertices rows)) (readRows text (at + lineBytes (suc m)) m 0 m) (λ rows. value (pieceOf vertices rows)))
-
-      pub piece-rows : (k : ℕ) → judged (λ rows. judgeBlocks (pieceOf vertices rows)) (readRows text (at + lineBytes (suc m)) m 0 m) ≡ refused k → readPiece text n at ≡ refused k
-      piece-rows k e = rows-of-piece ∙ rw e
-
-      pub piece-go : (rows : List (List ℕ)) → judged (λ rows. judgeBlocks (pieceOf vertices rows)) (readRows text (at + lineBytes (suc m)) m 0 m) ≡ value rows → readPiece text n at ≡ value (pieceOf vertices rows)
-      piece-go rows e = rows-of-piece ∙ rw e
+    pub table-go : (rows : List (List ℕ)) → judged (λ rows. judgeBlocks (pieceOf vertices rows)) (readRows text (at + lineBytes (suc m)) m 0 m) ≡ value rows → readSized text n at m ≡ value (pieceOf vertices rows)
+    table-go rows e = table-by ∙ rw e
 
 -- ---- pieces
 

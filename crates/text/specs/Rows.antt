@@ -3,13 +3,12 @@
 --   line-ends line-end-in                                             a line lies in the text
 --   rows-from rows-back                                               the rows of a table, read back from its places
 use mathlib.Core.Path.{_≡_, refl, sym, ap, _∙_}
-use mathlib.Core.Bool.{Bool, true, false}
 use mathlib.Core.Logic.{_≢_}
 use mathlib.Core.List.{List, [], _∷_, _++_, map, flatMap, append-assoc, append-nil}
-use Prim.Native.Nat.{ℕ, zero, suc, _+_, _-_, _*_, _≤_, _<_}
+use Prim.Native.Nat.{ℕ, suc, _+_, _-_, _*_, _≤_, _<_}
 use native.Mathlib.Numerals.{add-one}
 use native.Mathlib.Omega.{arith}
-use borrow.Author.Tests.{eqb-true, eqb-false}
+use borrow.Author.Tests.{eqb-true}
 use lib.Dec.{eqb}
 use lib.ListN.{getD, length, take, drop, replicate, length-append, List·getD-eq-default}
 use lib.Seq.{take-at, drop-at}
@@ -20,8 +19,8 @@ use Rattle.definitions.specs.Limits.{rowPlaces, tablePlaces}
 use Rattle.definitions.specs.Lists.{padded, upFrom}
 use Rattle.definitions.specs.Judgement.{judgeRow}
 use Rattle.definitions.specs.Text.{Read, refused, value, _>>=_, require, readFields, judgeLineEnd, readLine, lineBytes, readRows}
-use Rattle.text.specs.Outcomes.{Came, Holds, RowsLeft}
-use Rattle.text.specs.Reading.{after, after-after, after-none, judged, fields-in, rows-go, rows-stop}
+use Rattle.text.specs.Outcomes.{Came, RowsLeft}
+use Rattle.text.specs.Reading.{after, after-after, after-none, judged, rows-go, rows-stop}
 use Rattle.text.specs.Buffers.{put, put-padded, padded-inner}
 use Rattle.text.specs.Steps.{came-out, came-go}
 
@@ -94,7 +93,7 @@ rows-begun text at m table e h =
     }
 
 module _ (text : List ℕ) (at m i place : ℕ) (table : List ℕ) (g : RowsGoing text at m i place table) (small : m ≤ 24) (more-left : i < m) where
-  pub rows-turn : (c k : ℕ) (part : List ℕ) → k ≡ m → Came (judged (judgeRow i) (readLine text place k)) c (Holds part) → c ≡ 0 → length part ≡ m
+  pub rows-turn : (c k : ℕ) (part : List ℕ) → k ≡ m → Came (judged (judgeRow i) (readLine text place k)) c (λ xs. part ≡ xs) → c ≡ 0 → length part ≡ m
       → RowsGoing text at m (i + 1) (place + (6 * m + 1)) (put table (rowPlaces * i) part)
   unfolding lineBytes
   rows-turn c n part same came z long =
@@ -115,7 +114,7 @@ module _ (text : List ℕ) (at m i place : ℕ) (table : List ℕ) (g : RowsGoin
         inside = line-end-in (judgeRow i) text place m part e;
       }
 
-  pub rows-broken : (c k : ℕ) (part left : List ℕ) → k ≡ m → Came (judged (judgeRow i) (readLine text place k)) c (Holds part) → c ≢ 0 → Came (readRows text at m 0 m) c (RowsLeft text at m left)
+  pub rows-broken : (c k : ℕ) (part left : List ℕ) → k ≡ m → Came (judged (judgeRow i) (readLine text place k)) c (λ xs. part ≡ xs) → c ≢ 0 → Came (readRows text at m 0 m) c (RowsLeft text at m left)
   unfolding after
   rows-broken c j part left same came n =
       let k : m - i ≡ suc (m - (i + 1)) = (omega arith) in

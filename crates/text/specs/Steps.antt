@@ -5,14 +5,14 @@
 --   came-judged judged-refused   what is judged when it is read
 use mathlib.Core.Path.{_≡_, refl, sym, ap, _∙_}
 use mathlib.Core.Logic.{_≢_}
-use mathlib.Core.List.{List, [], _∷_, _++_, append-nil}
-use Prim.Native.Nat.{ℕ, zero, suc, _+_, _-_, _*_, _≤_, _<_}
+use mathlib.Core.List.{List, append-nil}
+use Prim.Native.Nat.{ℕ, suc, _+_, _-_, _*_, _≤_, _<_}
 use native.Mathlib.Omega.{arith}
 use lib.ListN.{getD, length, take, List·getD-eq-default}
 use lib.Seq.{take-all}
-use Rattle.definitions.specs.declared.Field.the-variants.{Number, Malformed}
+use Rattle.definitions.specs.declared.Field.the-variants.{Malformed}
 use Rattle.definitions.specs.Text.{fieldAt, Read, refused, value, readFields, readLine}
-use Rattle.text.specs.Outcomes.{Came, Holds}
+use Rattle.text.specs.Outcomes.{Came}
 use Rattle.text.specs.Reading.{judged, judged-go, judged-out, judged-stop, after, fields-stop, fields-in, line-go, line-stop, line-open}
 
 module _ {A : Type 0} (read : Read A) (Shows : A → Type 0) where
@@ -23,23 +23,23 @@ module _ {A : Type 0} (read : Read A) (Shows : A → Type 0) where
   came-go a e s = record { done = λ _. (a, e, s); stopped = λ n. absurd (n refl) }
 
 module _ (text : List ℕ) (at k i place : ℕ) (out : List ℕ) (so-far : readFields text at k ≡ after (take i out) (readFields text place (k - i))) where
-  pub fields-broken : i < k → fieldAt text place ≡ Malformed → Came (readFields text at k) 3 (Holds out)
+  pub fields-broken : i < k → fieldAt text place ≡ Malformed → Came (readFields text at k) 3 (λ xs. out ≡ xs)
   unfolding after
   fields-broken h e =
       let z : k - i ≡ suc (k - (i + 1)) = (omega arith) in
       let three : _≢_ {A = ℕ} 3 0 = λ w. omega arith in
-      came-out (readFields text at k) (Holds out) 3 three (so-far ∙ rw (z, fields-stop text place (k - (i + 1)) e))
+      came-out (readFields text at k) (λ xs. out ≡ xs) 3 three (so-far ∙ rw (z, fields-stop text place (k - (i + 1)) e))
 
-  pub fields-ended : i ≡ k → length out ≡ k → Came (readFields text at k) 0 (Holds out)
+  pub fields-ended : i ≡ k → length out ≡ k → Came (readFields text at k) 0 (λ xs. out ≡ xs)
   unfolding after readFields
   fields-ended h l =
       let z : k - i ≡ 0 = (omega arith) in
       let t : take i out ≡ out = take-all i out (omega arith) in
-      came-go (readFields text at k) (Holds out) out (so-far ∙ rw (z, t, append-nil)) refl
+      came-go (readFields text at k) (λ xs. out ≡ xs) out (so-far ∙ rw (z, t, append-nil)) refl
 
-module _ (text : List ℕ) (at k c : ℕ) (out : List ℕ) (came : Came (readFields text at k) c (Holds out)) where
-  pub line-refused : c ≢ 0 → Came (readLine text at k) c (Holds out)
-  line-refused h = came-out (readLine text at k) (Holds out) c h (line-stop text at k c (came .stopped h))
+module _ (text : List ℕ) (at k c : ℕ) (out : List ℕ) (came : Came (readFields text at k) c (λ xs. out ≡ xs)) where
+  pub line-refused : c ≢ 0 → Came (readLine text at k) c (λ xs. out ≡ xs)
+  line-refused h = came-out (readLine text at k) (λ xs. out ≡ xs) c h (line-stop text at k c (came .stopped h))
 
   module _ (ok : c ≡ 0) where
     read : readFields text at k ≡ value out
@@ -48,14 +48,14 @@ module _ (text : List ℕ) (at k c : ℕ) (out : List ℕ) (came : Came (readFie
     pub line-in : at ≤ length text → at + 6 * k ≤ length text
     line-in h = fields-in text at k out read h
 
-    pub line-other : getD text (at + 6 * k) 0 ≢ 10 → Came (readLine text at k) 3 (Holds out)
-    line-other h = let three : _≢_ {A = ℕ} 3 0 = λ w. omega arith in came-out (readLine text at k) (Holds out) 3 three (line-open text at k out read h)
+    pub line-other : getD text (at + 6 * k) 0 ≢ 10 → Came (readLine text at k) 3 (λ xs. out ≡ xs)
+    line-other h = let three : _≢_ {A = ℕ} 3 0 = λ w. omega arith in came-out (readLine text at k) (λ xs. out ≡ xs) 3 three (line-open text at k out read h)
 
-    pub line-short : length text ≤ at + 6 * k → Came (readLine text at k) 3 (Holds out)
+    pub line-short : length text ≤ at + 6 * k → Came (readLine text at k) 3 (λ xs. out ≡ xs)
     line-short h = line-other (λ e. omega (arith, List·getD-eq-default text 0 {n = at + 6 * k} h))
 
-    pub line-closed : getD text (at + 6 * k) 0 ≡ 10 → Came (readLine text at k) 0 (Holds out)
-    line-closed h = came-go (readLine text at k) (Holds out) out (line-go text at k out read h) refl
+    pub line-closed : getD text (at + 6 * k) 0 ≡ 10 → Came (readLine text at k) 0 (λ xs. out ≡ xs)
+    line-closed h = came-go (readLine text at k) (λ xs. out ≡ xs) out (line-go text at k out read h) refl
 
 -- ---- judged
 
@@ -65,9 +65,9 @@ came-judged cause read Shows a k e q s = record {
   stopped = λ n. judged-out cause read a e (λ z. n (q ∙ z)) ∙ ap refused (sym q);
 }
 
-module _ (cause : List ℕ → ℕ) (read : Read (List ℕ)) (c : ℕ) (out : List ℕ) (came : Came read c (Holds out)) where
-  pub judged-refused : c ≢ 0 → Came (judged cause read) c (Holds out)
-  judged-refused h = came-out (judged cause read) (Holds out) c h (judged-stop cause read c (came .stopped h))
+module _ (cause : List ℕ → ℕ) (read : Read (List ℕ)) (c : ℕ) (out : List ℕ) (came : Came read c (λ xs. out ≡ xs)) where
+  pub judged-refused : c ≢ 0 → Came (judged cause read) c (λ xs. out ≡ xs)
+  judged-refused h = came-out (judged cause read) (λ xs. out ≡ xs) c h (judged-stop cause read c (came .stopped h))
 
-  pub judged-then : c ≡ 0 → (k : ℕ) → k ≡ cause out → Came (judged cause read) k (Holds out)
-  judged-then z k q = let d = came .done z in came-judged cause read (Holds out) out k (d .1 ∙ ap value (sym (d .2))) q refl
+  pub judged-then : c ≡ 0 → (k : ℕ) → k ≡ cause out → Came (judged cause read) k (λ xs. out ≡ xs)
+  judged-then z k q = let d = came .done z in came-judged cause read (λ xs. out ≡ xs) out k (d .1 ∙ ap value (sym (d .2))) q refl

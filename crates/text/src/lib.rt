@@ -1,17 +1,17 @@
 // The text reader: text of at most 60,000 bytes into the lent sizes, vertices and lengths.
 ghost use mathlib.Core.Path.{_≡_};
 ghost use mathlib.Core.List.{List, []};
-ghost use Prim.Native.Nat.{ℕ, _+_, _*_, _<_, _≤_};
+ghost use Prim.Native.Nat.{_+_, _<_, _≤_};
 ghost use lib.ListN.{length, replicate};
 ghost use Rattle.definitions.specs.Limits.{sizePlaces, tablePlaces};
 ghost use Rattle.definitions.specs.Network.{Piece};
 ghost use Rattle.definitions.specs.Judgement.{judgeSize, judgeVertices, judgeRow};
-ghost use Rattle.definitions.specs.Text.{readField, readFields, readLine, readRows, readPiece, readPieces};
+ghost use Rattle.definitions.specs.Text.{readField, readFields, readLine, readRows, readPiece, readPieces, readBody, readPlan};
 ghost use Rattle.definitions.specs.Entries.{readRefusal, reading};
-ghost use Rattle.text.specs.Outcomes.{Came, Holds, Is, RowsLeft};
-ghost use Rattle.text.specs.Reading.{judged};
-ghost use Rattle.text.specs.Pieces.{Held, Room, TableRead, PieceLeft, PiecesLeft};
-ghost use Rattle.text.specs.Plans.{readQuestion, PlanRead, After};
+ghost use Rattle.text.specs.Outcomes.{Came, RowsLeft};
+ghost use Rattle.text.specs.Reading.{judged, readSized};
+ghost use Rattle.text.specs.Pieces.{Held, Room, Free, TableRead, SizedLeft, PieceLeft, PiecesLeft};
+ghost use Rattle.text.specs.Plans.{readQuestion, PlanRead};
 use bounds::Cause;
 use bounds::Network;
 use bounds::Text;
@@ -21,7 +21,7 @@ use definitions::ReadAnswer;
 // The fields of a line from `at` on, as many as `out` has places; 3 if one is not a field.
 fn read_fields(text: &[u8], at: usize, out: &mut [u32]) -> u32
     requires { ⌜ at ≤ length (now text) ⌝ }
-    ensures { λ r. ⌜ Came (readFields (now (text .entry)) at (length (now (out .entry)))) r (Holds (now (out .exit))) ⌝ }
+    ensures { λ r. ⌜ Came (readFields (now (text .entry)) at (length (now (out .entry)))) r (λ xs. now (out .exit) ≡ xs) ⌝ }
 {
     let mut i = 0;
     let mut place = at;
@@ -40,7 +40,7 @@ fn read_fields(text: &[u8], at: usize, out: &mut [u32]) -> u32
 // A line's layout: its fields, then one byte 10.
 fn read_line(text: &[u8], at: usize, out: &mut [u32]) -> u32
     requires { ⌜ at ≤ length (now text) ⌝ }
-    ensures { λ r. ⌜ Came (readLine (now (text .entry)) at (length (now (out .entry)))) r (Holds (now (out .exit))) ⌝ }
+    ensures { λ r. ⌜ Came (readLine (now (text .entry)) at (length (now (out .entry)))) r (λ xs. now (out .exit) ≡ xs) ⌝ }
 {
     let k = out.len();
     let cause = read_fields(text, at, out);
@@ -60,7 +60,7 @@ fn read_line(text: &[u8], at: usize, out: &mut [u32]) -> u32
 // A line of vertices, then their judgement.
 fn read_vertices(text: &[u8], at: usize, n: u32, out: &mut [u32]) -> u32
     requires { ⌜ at ≤ length (now text) ⌝ }
-    ensures { λ r. ⌜ Came (judged (judgeVertices n) (readLine (now (text .entry)) at (length (now (out .entry))))) r (Holds (now (out .exit))) ⌝ }
+    ensures { λ r. ⌜ Came (judged (judgeVertices n) (readLine (now (text .entry)) at (length (now (out .entry))))) r (λ xs. now (out .exit) ≡ xs) ⌝ }
 {
     let cause = read_line(text, at, out);
     if cause != Cause::NONE {
@@ -72,7 +72,7 @@ fn read_vertices(text: &[u8], at: usize, n: u32, out: &mut [u32]) -> u32
 // Row i of a table, then its judgement.
 fn read_row(text: &[u8], at: usize, i: usize, out: &mut [u32]) -> u32
     requires { ⌜ at ≤ length (now text) ⌝ }
-    ensures { λ r. ⌜ Came (judged (judgeRow i) (readLine (now (text .entry)) at (length (now (out .entry))))) r (Holds (now (out .exit))) ⌝ }
+    ensures { λ r. ⌜ Came (judged (judgeRow i) (readLine (now (text .entry)) at (length (now (out .entry))))) r (λ xs. now (out .exit) ≡ xs) ⌝ }
 {
     let cause = read_line(text, at, out);
     if cause != Cause::NONE {
@@ -88,7 +88,7 @@ struct Size {
 }
 
 fn read_size(text: &[u8], at: usize) -> Size
-    ensures { λ r. ⌜ Came (judged judgeSize (readField (now (text .entry)) at)) (r .number) (Is (r .m)) ⌝ }
+    ensures { λ r. ⌜ Came (judged judgeSize (readField (now (text .entry)) at)) (r .number) (λ m. r .m ≡ m) ⌝ }
 {
     let field = reader::field_at(text, at);
     let Field::Number(m) = field else {
@@ -135,6 +135,31 @@ fn read_table(text: &[u8], at: usize, m: usize, table: &mut [u32]) -> u32
     checks::judge_blocks(m as u32, table)
 }
 
+// The rest of piece d, whose size is m: its vertices, then its table, into their places.
+fn read_sized(
+    text: &[u8],
+    at: usize,
+    n: u32,
+    d: usize,
+    m: usize,
+    vertices: &mut [u32],
+    lengths: &mut [u32],
+) -> u32
+    requires { ⌜ (at + 6 ≤ length (now text)) × (d < sizePlaces) × (1 ≤ m) × (m ≤ 24) × Free d (now vertices) (now lengths) ⌝ }
+    ensures { λ r. ⌜ Came (readSized (now (text .entry)) n at m) r (SizedLeft (now (text .entry)) at m d (now (vertices .entry)) (now (lengths .entry)) (now (vertices .exit)) (now (lengths .exit))) ⌝ }
+{
+    let a = Network::ROW_PLACES * d;
+    let e = a + m;
+    let cause = read_vertices(text, at + Text::FIELD_BYTES, n, &mut vertices[a..e]);
+    if cause != Cause::NONE {
+        return cause;
+    }
+    let rows = at + Text::FIELD_BYTES * (m + 1) + 1;
+    let b = Network::TABLE_PLACES * d;
+    let f = b + Network::TABLE_PLACES;
+    read_table(text, rows, m, &mut lengths[b..f])
+}
+
 // The cause that a piece gives, or 0 and where the next line begins.
 struct Progress {
     number: u32,
@@ -160,26 +185,15 @@ fn read_piece(
         return Progress { number, next: at };
     }
     let m = size.m as usize;
-    let a = Network::ROW_PLACES * d;
-    let e = a + m;
-    let listed = read_vertices(text, at + Text::FIELD_BYTES, n, &mut vertices[a..e]);
-    if listed != Cause::NONE {
+    let cause = read_sized(text, at, n, d, m, vertices, lengths);
+    if cause != Cause::NONE {
         return Progress {
-            number: listed,
-            next: at,
-        };
-    }
-    let rows = at + Text::FIELD_BYTES * m + Text::LINE_OF_ONE;
-    let b = Network::TABLE_PLACES * d;
-    let f = b + Network::TABLE_PLACES;
-    let table = read_table(text, rows, m, &mut lengths[b..f]);
-    if table != Cause::NONE {
-        return Progress {
-            number: table,
+            number: cause,
             next: at,
         };
     }
     sizes[d] = size.m;
+    let rows = at + Text::FIELD_BYTES * (m + 1) + 1;
     Progress {
         number: Cause::NONE,
         next: rows + m * (Text::FIELD_BYTES * m + 1),
@@ -228,7 +242,7 @@ struct Question {
 // The question line, the judgement of its source, and then the text's end.
 fn read_question(text: &[u8], at: usize, n: u32) -> Question
     requires { ⌜ at ≤ length (now text) ⌝ }
-    ensures { λ r. ⌜ Came (readQuestion (now (text .entry)) n at) (r .number) (Is (r .source)) ⌝ }
+    ensures { λ r. ⌜ Came (readQuestion (now (text .entry)) n at) (r .number) (λ source. r .source ≡ source) ⌝ }
 {
     let mut line = [0u32; 1];
     let cause = read_line(text, at, &mut line);
@@ -258,6 +272,7 @@ fn read_question(text: &[u8], at: usize, n: u32) -> Question
     }
 }
 
+// A refusal's answer: its number, and no network.
 fn refusal(number: u32) -> ReadAnswer
     ensures { λ r. ⌜ r ≡ readRefusal number ⌝ }
 {
@@ -269,36 +284,24 @@ fn refusal(number: u32) -> ReadAnswer
     }
 }
 
-// The text from front to back, into buffers that are 0.
-fn read_plan(
+// What follows the line of n and p, into buffers that are 0.
+fn read_body(
     text: &[u8],
+    n: u32,
+    p: u32,
     sizes: &mut [u32],
     vertices: &mut [u32],
     lengths: &mut [u32],
 ) -> ReadAnswer
-    requires { ⌜ Held [] (now sizes) (now vertices) (now lengths) ⌝ }
-    ensures { λ r. ⌜ PlanRead (now (text .entry)) r (now (sizes .exit)) (now (vertices .exit)) (now (lengths .exit)) ⌝ }
+    requires { ⌜ (13 ≤ length (now text)) × Held [] (now sizes) (now vertices) (now lengths) ⌝ }
+    ensures { λ r. ⌜ PlanRead (readBody (now (text .entry)) n p) r (now (sizes .exit)) (now (vertices .exit)) (now (lengths .exit)) ⌝ }
 {
-    let mut line = [0u32; 2];
-    let cause = read_line(text, 0, &mut line);
-    if cause != Cause::NONE {
-        return refusal(cause);
-    }
-    let n = line[0];
-    let p = line[1];
     let bounds = checks::judge_bounds(n, p);
     if bounds != Cause::NONE {
         return refusal(bounds);
     }
-    let pieces = read_pieces(
-        text,
-        Text::LINE_OF_TWO,
-        n,
-        p as usize,
-        sizes,
-        vertices,
-        lengths,
-    );
+    let at = Text::LINE_OF_TWO;
+    let pieces = read_pieces(text, at, n, p as usize, sizes, vertices, lengths);
     let number = pieces.number;
     if number != Cause::NONE {
         return refusal(number);
@@ -317,6 +320,25 @@ fn read_plan(
     }
 }
 
+// The text from front to back, into buffers that are 0.
+fn read_plan(
+    text: &[u8],
+    sizes: &mut [u32],
+    vertices: &mut [u32],
+    lengths: &mut [u32],
+) -> ReadAnswer
+    requires { ⌜ Held [] (now sizes) (now vertices) (now lengths) ⌝ }
+    ensures { λ r. ⌜ PlanRead (readPlan (now (text .entry))) r (now (sizes .exit)) (now (vertices .exit)) (now (lengths .exit)) ⌝ }
+{
+    let mut line = [0u32; 2];
+    let cause = read_line(text, 0, &mut line);
+    if cause != Cause::NONE {
+        return refusal(cause);
+    }
+    read_body(text, line[0], line[1], sizes, vertices, lengths)
+}
+
+// Every place of a buffer to 0.
 fn clear(buffer: &mut [u32])
     ensures { λ _. ⌜ now (buffer .exit) ≡ replicate (length (now (buffer .entry))) 0 ⌝ }
 {
@@ -335,7 +357,7 @@ pub fn read_text(
     vertices: &mut [u32],
     lengths: &mut [u32],
 ) -> ReadAnswer
-    ensures { λ r. ⌜ After r (now (sizes .exit)) (now (vertices .exit)) (now (lengths .exit)) ≡ reading (now (text .entry)) (now (sizes .entry)) (now (vertices .entry)) (now (lengths .entry)) ⌝ }
+    ensures { λ r. ⌜ record { answer = r; sizes = now (sizes .exit); vertices = now (vertices .exit); lengths = now (lengths .exit) } ≡ reading (now (text .entry)) (now (sizes .entry)) (now (vertices .entry)) (now (lengths .entry)) ⌝ }
 {
     let buffers = checks::judge_buffers(sizes.len(), vertices.len(), lengths.len());
     if buffers != Cause::NONE {

@@ -1,52 +1,40 @@
-use mathlib.Core.Path.{_≡_, sym, _∙_}
+-- `rabdzhine_read_field`: a buffer of another size is left, else its one place holds the number that was read, or 0.
+use mathlib.Core.Path.{sym, _∙_}
 use Rattle.definitions.specs.declared.Field.the-variants.{Number, Malformed}
-use Rattle.host.specs.Host.{field-size, field-left}
+use Rattle.host.specs.Laws.{field-size, field-left}
 use borrow.Author.Needs.{needs}
 use Rattle.host.proofs.rabdzhine_read_field.Statement.{statement}
 use Rattle.host.proofs.rabdzhine_read_field.Tie as tie
-use Rattle.host.proofs.rabdzhine_read_field.Reads as reads
-use Rattle.host.proofs.rabdzhine_read_field.Lts as lts
-use Rattle.fields.proofs.read_field.Reads as read-field-reads
 
--- src/lib.rt:17:9
 returns : tie.Need-returns
 returns c =
     field-size _ _ _ (c .if1 .taken)
 
--- src/lib.rt:19:9
 read-field-requires : tie.Need-read-field-requires
 read-field-requires c κs = search needs
 
--- src/lib.rt:20:23
 enum-known-field : tie.Need-enum-known-field
 enum-known-field c = search needs
 
--- src/lib.rt:21:9
 enum-told : tie.Need-enum-told
 enum-told c = search needs
 
--- src/lib.rt:21:9
 slice-write-value : tie.Need-slice-write-value
 slice-write-value c = search needs
 
--- src/lib.rt:22:9
 same-length : tie.Need-same-length
 same-length c = search needs
 
--- src/lib.rt:22:9
 returns-2 : tie.Need-returns-2
 returns-2 c =
     field-left _ _ _ Malformed (c .before .before .before .if1 .left) (sym (c .before .before .read-field .ensures) ∙ c .enum-told .given .1)
 
--- src/lib.rt:24:5
 slice-write-value-2 : tie.Need-slice-write-value-2
 slice-write-value-2 c = search needs
 
--- src/lib.rt:12:1
 same-length-2 : tie.Need-same-length-2
 same-length-2 c = search needs
 
--- src/lib.rt:12:1
 returns-3 : tie.Need-returns-3
 returns-3 c =
     field-left _ _ _ (Number (c .before .field .given .0 .0)) (c .before .before .before .before .if1 .left) (sym (c .before .before .before .read-field .ensures) ∙ c .before .field .given .1)

@@ -1,56 +1,42 @@
+-- `replay_bytes`: the two tests of a length are what the two parts of the text need.
 use mathlib.Core.Path.{sym}
 use lib.Seq.{length-take-le}
 use borrow.Author.Needs.{needs}
 use Rattle.replay_labels.proofs.replay_bytes.Statement.{statement}
 use Rattle.replay_labels.proofs.replay_bytes.Tie as tie
-use Rattle.replay_labels.proofs.replay_bytes.Reads as reads
-use Rattle.replay_labels.proofs.replay_bytes.Lts as lts
-use Rattle.io.proofs.read_full.Reads as read-full-reads
-use Rattle.replay_labels.proofs.write_listing.Reads as write-listing-reads
 
--- src/main.rt:17:9
 returns : tie.Need-returns
 returns c = search needs
 
--- src/main.rt:19:41
 slice-relend-prefix-read-full : tie.Need-slice-relend-prefix-read-full
 slice-relend-prefix-read-full c = search needs
 
--- src/main.rt:19:41
 slice-aggregate-read-full : tie.Need-slice-aggregate-read-full
 slice-aggregate-read-full c =
     sym (length-take-le _ _ (c .before .if1 .left))
 
--- src/main.rt:19:9
 read-full-requires : tie.Need-read-full-requires
 read-full-requires c κs = search needs
 
--- src/main.rt:21:9
 same-length : tie.Need-same-length
 same-length c = search needs
 
--- src/main.rt:21:9
 returns-2 : tie.Need-returns-2
 returns-2 c = search needs
 
--- src/main.rt:23:19
 slice-reshare-prefix-write-listing : tie.Need-slice-reshare-prefix-write-listing
 slice-reshare-prefix-write-listing c = search needs
 
--- src/main.rt:23:19
 slice-aggregate-write-listing : tie.Need-slice-aggregate-write-listing
 slice-aggregate-write-listing c =
     sym (length-take-le _ _ (c .before .if2 .left))
 
--- src/main.rt:23:5
 write-listing-requires : tie.Need-write-listing-requires
 write-listing-requires c κs = search needs
 
--- src/main.rt:15:1
 same-length-2 : tie.Need-same-length-2
 same-length-2 c = search needs
 
--- src/main.rt:15:1
 returns-3 : tie.Need-returns-3
 returns-3 c = search needs
 

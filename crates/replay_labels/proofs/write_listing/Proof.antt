@@ -1,3 +1,4 @@
+-- `write_listing`: a listing fits the bytes, so that the part that is written exists.
 use mathlib.Core.Path.{_≡_, sym}
 use native.Mathlib.Omega.{arith}
 use lib.ListN.{length}
@@ -6,27 +7,19 @@ use Rattle.answer.specs.Answers.{written-fits}
 use borrow.Author.Needs.{needs}
 use Rattle.replay_labels.proofs.write_listing.Statement.{statement}
 use Rattle.replay_labels.proofs.write_listing.Tie as tie
-use Rattle.replay_labels.proofs.write_listing.Reads as reads
-use Rattle.replay_labels.proofs.write_listing.Lts as lts
-use Rattle.answer.proofs.write_listing.Reads as write-listing-reads
-use Rattle.io.proofs.write_all.Reads as write-all-reads
 
--- src/main.rt:13:47
 slice-aggregate-write-listing : tie.Need-slice-aggregate-write-listing
 slice-aggregate-write-listing c = search needs
 
--- src/main.rt:13:9
 write-listing-requires : tie.Need-write-listing-requires
 write-listing-requires c κs = search needs
 
--- src/main.rt:14:34
 array-share-prefix-out : tie.Need-array-share-prefix-out
 array-share-prefix-out c =
     let fits = written-fits _ _ _ _ (c .before .write-listing .ensures) in
     let long : length (c .before .write-listing .last .1 .0) ≡ 4901 = c .out2 .given in
     omega arith
 
--- src/main.rt:14:34
 slice-aggregate-write-all : tie.Need-slice-aggregate-write-all
 slice-aggregate-write-all c =
     let w = c .before .before .write-listing in
@@ -34,11 +27,9 @@ slice-aggregate-write-all c =
     let long : length (w .last .1 .0) ≡ 4901 = c .before .out2 .given in
     sym (length-take-le (w .result) (w .last .1 .0) (omega arith))
 
--- src/main.rt:14:5
 write-all-requires : tie.Need-write-all-requires
 write-all-requires c κs = search needs
 
--- src/main.rt:11:1
 returns : tie.Need-returns
 returns c = search needs
 

@@ -1,11 +1,8 @@
+-- `main` ends with the number of sessions that was read.
 use Prim.Native.Nat.{_-_}
 use borrow.Author.Needs.{needs}
 use Rattle.replay_sessions.proofs.main.Statement.{statement}
 use Rattle.replay_sessions.proofs.main.Tie as tie
-use Rattle.replay_sessions.proofs.main.Reads as reads
-use Rattle.replay_sessions.proofs.main.Lts as lts
-use Rattle.replay.proofs.read_value.Reads as read-value-reads
-use Rattle.replay_sessions.proofs.replay_session.Reads as replay-session-reads
 
 abbrev Inv-loop : tie.InvT-loop
 Inv-loop session₀ session-end session = Unit {0}
@@ -13,31 +10,24 @@ Inv-loop session₀ session-end session = Unit {0}
 abbrev μ-loop : tie.MeasureT-loop
 μ-loop session₀ session-end session = session-end - session
 
--- src/main.rt:175:23
 read-value-requires : tie.Need-read-value-requires Inv-loop μ-loop
 read-value-requires c κs = search needs
 
--- src/main.rt:175:5
 loop-holds : tie.Need-loop-holds Inv-loop μ-loop
 loop-holds c = search needs
 
--- src/main.rt:176:9
 replay-session-requires : tie.Need-replay-session-requires Inv-loop μ-loop
 replay-session-requires c κs = search needs
 
--- src/main.rt:175:9
 add-session : tie.Need-add-session Inv-loop μ-loop
 add-session c = search needs
 
--- src/main.rt:175:5
 loop-less : tie.Need-loop-less Inv-loop μ-loop
 loop-less c = search needs
 
--- src/main.rt:175:5
 loop-again : tie.Need-loop-again Inv-loop μ-loop
 loop-again c = search needs
 
--- src/main.rt:174:1
 returns : tie.Need-returns Inv-loop μ-loop
 returns c = search needs
 

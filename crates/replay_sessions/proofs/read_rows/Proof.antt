@@ -1,12 +1,10 @@
+-- `read_rows` ends with the rows, and the buffer keeps its length.
 use lib.ListN.{length}
 use mathlib.Core.Path.{_≡_}
 use Prim.Native.Nat.{_-_}
 use borrow.Author.Needs.{needs}
 use Rattle.replay_sessions.proofs.read_rows.Statement.{statement}
 use Rattle.replay_sessions.proofs.read_rows.Tie as tie
-use Rattle.replay_sessions.proofs.read_rows.Reads as reads
-use Rattle.replay_sessions.proofs.read_rows.Lts as lts
-use Rattle.replay_sessions.proofs.read_row.Reads as read-row-reads
 
 abbrev Inv-loop : tie.InvT-loop
 Inv-loop lengths₀ rows cols i₀ lengths i = length lengths ≡ length lengths₀
@@ -14,35 +12,27 @@ Inv-loop lengths₀ rows cols i₀ lengths i = length lengths ≡ length lengths
 abbrev μ-loop : tie.MeasureT-loop
 μ-loop lengths₀ rows cols i₀ lengths i = rows - i
 
--- src/main.rt:31:9
 returns : tie.Need-returns Inv-loop μ-loop
 returns c = search needs
 
--- src/main.rt:33:5
 loop-holds : tie.Need-loop-holds Inv-loop μ-loop
 loop-holds c = search needs
 
--- src/main.rt:34:9
 read-row-requires : tie.Need-read-row-requires Inv-loop μ-loop
 read-row-requires c κs = search needs
 
--- src/main.rt:33:9
 add-i : tie.Need-add-i Inv-loop μ-loop
 add-i c = search needs
 
--- src/main.rt:33:5
 loop-less : tie.Need-loop-less Inv-loop μ-loop
 loop-less c = search needs
 
--- src/main.rt:33:5
 loop-again : tie.Need-loop-again Inv-loop μ-loop
 loop-again c = search needs
 
--- src/main.rt:29:1
 same-length : tie.Need-same-length Inv-loop μ-loop
 same-length c = search needs
 
--- src/main.rt:29:1
 returns-2 : tie.Need-returns-2 Inv-loop μ-loop
 returns-2 c = search needs
 

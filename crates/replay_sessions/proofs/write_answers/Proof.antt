@@ -1,10 +1,8 @@
+-- `write_answers` ends with the calls.
 use Prim.Native.Nat.{_-_}
 use borrow.Author.Needs.{needs}
 use Rattle.replay_sessions.proofs.write_answers.Statement.{statement}
 use Rattle.replay_sessions.proofs.write_answers.Tie as tie
-use Rattle.replay_sessions.proofs.write_answers.Reads as reads
-use Rattle.replay_sessions.proofs.write_answers.Lts as lts
-use Rattle.replay_sessions.proofs.write_triple.Reads as write-triple-reads
 
 abbrev Inv-loop : tie.InvT-loop
 Inv-loop answers count j₀ j = Unit {0}
@@ -12,27 +10,21 @@ Inv-loop answers count j₀ j = Unit {0}
 abbrev μ-loop : tie.MeasureT-loop
 μ-loop answers count j₀ j = count - j
 
--- src/main.rt:86:5
 loop-holds : tie.Need-loop-holds Inv-loop μ-loop
 loop-holds c = search needs
 
--- src/main.rt:87:9
 write-triple-requires : tie.Need-write-triple-requires Inv-loop μ-loop
 write-triple-requires c κs = search needs
 
--- src/main.rt:86:9
 add-j : tie.Need-add-j Inv-loop μ-loop
 add-j c = search needs
 
--- src/main.rt:86:5
 loop-less : tie.Need-loop-less Inv-loop μ-loop
 loop-less c = search needs
 
--- src/main.rt:86:5
 loop-again : tie.Need-loop-again Inv-loop μ-loop
 loop-again c = search needs
 
--- src/main.rt:85:1
 returns : tie.Need-returns Inv-loop μ-loop
 returns c = search needs
 

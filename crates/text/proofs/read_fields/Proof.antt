@@ -1,5 +1,6 @@
-use mathlib.Core.Path.{_≡_, refl, sym, ap, _∙_}
-use Prim.Native.Nat.{ℕ, _≤_, _<_, _-_, _+_}
+-- `read_fields`: what the definition reads is the fields in the first i places, then those from the place reached on.
+use mathlib.Core.Path.{_≡_, sym, _∙_}
+use Prim.Native.Nat.{_≤_, _-_}
 use native.Mathlib.Omega.{arith}
 use borrow.Author.Needs.{needs}
 use lib.ListN.{length, take}
@@ -8,9 +9,6 @@ use Rattle.text.specs.Reading.{after, after-none, fields-turn, field-in}
 use Rattle.text.specs.Steps.{fields-broken, fields-ended}
 use Rattle.text.proofs.read_fields.Statement.{statement}
 use Rattle.text.proofs.read_fields.Tie as tie
-use Rattle.text.proofs.read_fields.Reads as reads
-use Rattle.text.proofs.read_fields.Lts as lts
-use Rattle.reader.proofs.field_at.Reads as field-at-reads
 
 abbrev Inv-loop : tie.InvT-loop
 Inv-loop text at out₀ i₀ place₀ out i place =
@@ -19,57 +17,45 @@ Inv-loop text at out₀ i₀ place₀ out i place =
 abbrev μ-loop : tie.MeasureT-loop
 μ-loop text at out₀ i₀ place₀ out i place = length out₀ - i
 
--- src/lib.rt:19:5
 loop-holds : tie.Need-loop-holds Inv-loop μ-loop
 loop-holds c =
     let a = c .before .before .args in
     let z : length (a .out .now) - 0 ≡ length (a .out .now) = (omega arith) in
     (search needs, search needs, search needs, rw z (sym (after-none (readFields (a .text .now) (a .at) (length (a .out .now))))))
 
--- src/lib.rt:20:13
 field-at-requires : tie.Need-field-at-requires Inv-loop μ-loop
 field-at-requires c κs = search needs
 
--- src/lib.rt:21:27
 enum-known-field : tie.Need-enum-known-field Inv-loop μ-loop
 enum-known-field c = search needs
 
--- src/lib.rt:22:13
 enum-told : tie.Need-enum-told Inv-loop μ-loop
 enum-told c = search needs
 
--- src/lib.rt:22:13
 same-length : tie.Need-same-length Inv-loop μ-loop
 same-length c = search needs
 
--- src/lib.rt:22:13
 returns : tie.Need-returns Inv-loop μ-loop
 returns c =
     let l = c .before .before .before .before .loop in
     let h = c .before .before .before .loop-test .taken in
     fields-broken _ _ _ (l .i) (l .place) (l .out) (l .inv .3) (search needs) (sym (c .before .before .field-at .ensures) ∙ c .enum-told .given .1)
 
--- src/lib.rt:24:9
 mul-out : tie.Need-mul-out Inv-loop μ-loop
 mul-out c = search needs
 
--- src/lib.rt:24:9
 slice-write-out : tie.Need-slice-write-out Inv-loop μ-loop
 slice-write-out c = search needs
 
--- src/lib.rt:25:9
 add-place : tie.Need-add-place Inv-loop μ-loop
 add-place c = search needs
 
--- src/lib.rt:26:9
 add-i : tie.Need-add-i Inv-loop μ-loop
 add-i c = search needs
 
--- src/lib.rt:19:5
 loop-less : tie.Need-loop-less Inv-loop μ-loop
 loop-less c = search needs
 
--- src/lib.rt:19:5
 loop-again : tie.Need-loop-again Inv-loop μ-loop
 loop-again c =
     let l = c .before .before .before .before .before .loop in
@@ -78,11 +64,9 @@ loop-again c =
     let p = field-in (a .text .now) (l .place) (c .before .field .given .0 .0) f in
     (search needs, search needs, p, fields-turn (a .text .now) (a .at) (length (a .out .now)) (l .i) (l .place) (c .before .field .given .0 .0) (l .out) (omega arith) (l .inv .1) f (l .inv .3))
 
--- src/lib.rt:13:1
 same-length-2 : tie.Need-same-length-2 Inv-loop μ-loop
 same-length-2 c = search needs
 
--- src/lib.rt:13:1
 returns-2 : tie.Need-returns-2 Inv-loop μ-loop
 returns-2 c =
     let l = c .before .loop in

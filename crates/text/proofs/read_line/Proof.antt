@@ -1,29 +1,21 @@
+-- `read_line`: the fields lie in the text, so that the place behind them can be compared with its end.
 use borrow.Author.Needs.{needs}
 use Rattle.text.specs.Steps.{line-refused, line-in, line-short, line-other, line-closed}
-use borrow.Author.Needs.{needs}
 use Rattle.text.proofs.read_line.Statement.{statement}
 use Rattle.text.proofs.read_line.Tie as tie
-use Rattle.text.proofs.read_line.Reads as reads
-use Rattle.text.proofs.read_line.Lts as lts
-use Rattle.text.proofs.read_fields.Reads as read-fields-reads
 
--- src/lib.rt:37:9
 read-fields-requires : tie.Need-read-fields-requires
 read-fields-requires c κs = search needs
 
--- src/lib.rt:39:9
 same-length : tie.Need-same-length
 same-length c = search needs
 
--- src/lib.rt:39:9
 returns : tie.Need-returns
 returns c = line-refused _ _ _ _ _ (c .before .before .before .read-fields .ensures) (c .if1 .taken)
 
--- src/lib.rt:41:20
 mul-end : tie.Need-mul-end
 mul-end c = search needs
 
--- src/lib.rt:41:15
 add-end : tie.Need-add-end
 add-end c =
     let a = c .before .before .before .before .before .before .before .args in
@@ -31,31 +23,24 @@ add-end c =
     let h = line-in _ _ _ _ _ (f .ensures) (c .if1 .left) (c .before .before .before .before .before .before .before .pre) in
     search needs
 
--- src/lib.rt:43:9
 same-length-2 : tie.Need-same-length-2
 same-length-2 c = search needs
 
--- src/lib.rt:43:9
 returns-2 : tie.Need-returns-2
 returns-2 c = line-short _ _ _ _ _ (c .before .before .before .before .read-fields .ensures) (c .before .if1 .left) (c .if2 .taken)
 
--- src/lib.rt:45:8
 shared-slice-read-if3 : tie.Need-shared-slice-read-if3
 shared-slice-read-if3 c = search needs
 
--- src/lib.rt:46:9
 same-length-3 : tie.Need-same-length-3
 same-length-3 c = search needs
 
--- src/lib.rt:46:9
 returns-3 : tie.Need-returns-3
 returns-3 c = line-other _ _ _ _ _ (c .before .before .before .before .before .before .read-fields .ensures) (c .before .before .before .if1 .left) (c .if3 .taken)
 
--- src/lib.rt:32:1
 same-length-4 : tie.Need-same-length-4
 same-length-4 c = search needs
 
--- src/lib.rt:32:1
 returns-4 : tie.Need-returns-4
 returns-4 c = line-closed _ _ _ _ _ (c .before .before .before .before .before .before .read-fields .ensures) (c .before .before .before .if1 .left) (c .if3 .left)
 

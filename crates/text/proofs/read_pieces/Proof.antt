@@ -1,14 +1,12 @@
-use mathlib.Core.Path.{_≡_, refl, sym, ap, _∙_}
-use Prim.Native.Nat.{ℕ, _+_, _-_, _≤_, _<_}
+-- `read_pieces`: the buffers hold the first d pieces, and the definition reads the others from the place reached on.
+use mathlib.Core.Path.{_≡_, refl}
+use Prim.Native.Nat.{_-_, _≤_}
 use native.Mathlib.Omega.{arith}
 use borrow.Author.Needs.{needs}
 use lib.ListN.{length}
 use Rattle.text.specs.Pieces.{PiecesGoing, pieces-begun, pieces-turn, pieces-broken, pieces-ended}
 use Rattle.text.proofs.read_pieces.Statement.{statement}
 use Rattle.text.proofs.read_pieces.Tie as tie
-use Rattle.text.proofs.read_pieces.Reads as reads
-use Rattle.text.proofs.read_pieces.Lts as lts
-use Rattle.text.proofs.read_piece.Reads as read-piece-reads
 
 abbrev Inv-loop : tie.InvT-loop
 Inv-loop text at n p sizes₀ vertices₀ lengths₀ d₀ place₀ sizes vertices lengths d place = (d ≤ p) × (length sizes ≡ length sizes₀) × (length vertices ≡ length vertices₀) × (length lengths ≡ length lengths₀) × PiecesGoing text n at p d place sizes vertices lengths
@@ -16,81 +14,57 @@ Inv-loop text at n p sizes₀ vertices₀ lengths₀ d₀ place₀ sizes vertice
 abbrev μ-loop : tie.MeasureT-loop
 μ-loop text at n p sizes₀ vertices₀ lengths₀ d₀ place₀ sizes vertices lengths d place = p - d
 
--- src/lib.rt:199:5
 loop-holds : tie.Need-loop-holds Inv-loop μ-loop
 loop-holds c =
-    let p = c .before .before .before .before .pre in
-    let a = c .before .before .before .before .args in
-    (search needs, refl, refl, refl, pieces-begun (a .text .now) (a .n) (a .at) (a .p) _ _ _ (p .2) (p .0))
+    let s = c .before .before .before .before in
+    (search needs, refl, refl, refl, pieces-begun _ _ _ _ _ _ _ (s .pre .2) (s .pre .0))
 
--- src/lib.rt:200:13
 read-piece-requires : tie.Need-read-piece-requires Inv-loop μ-loop
 read-piece-requires c κs =
-    let l = c .before .before .before .before .loop in
-    let a = c .before .before .before .before .before .before .before .before .before .args in
     let p = c .before .before .before .before .before .before .before .before .before .pre in
-    let g = l .inv .4 in
+    let g = c .before .before .before .before .loop .inv .4 in
     (g .inside, omega arith, record { pieces = g .pieces; count = g .count; held = g .held })
 
--- src/lib.rt:203:13
 same-length : tie.Need-same-length Inv-loop μ-loop
 same-length c = search needs
 
--- src/lib.rt:203:13
 same-length-2 : tie.Need-same-length-2 Inv-loop μ-loop
 same-length-2 c = search needs
 
--- src/lib.rt:203:13
 same-length-3 : tie.Need-same-length-3 Inv-loop μ-loop
 same-length-3 c = search needs
 
--- src/lib.rt:203:13
 returns : tie.Need-returns Inv-loop μ-loop
 returns c =
-    let l = c .before .before .before .before .before .before .before .before .before .before .before .before .loop in
-    let a = c .before .before .before .before .before .before .before .before .before .before .before .before .before .before .before .before .before .args in
-    let g = l .inv .4 in
-    let r = c .before .before .before .before .before .before .before .read-piece in
-    let t : l .d < a .p = omega arith in
-    pieces-broken (a .text .now) (a .n) (a .at) (a .p) (l .d) (l .place) _ _ _ g t (r .result .number) _ _ (r .ensures (g .pieces) (g .count) (g .held)) (c .if1 .taken)
+    let t = c .before .before .before .before .before .before .before .before .before .before .before in
+    let g = t .before .loop .inv .4 in
+    pieces-broken _ _ _ _ _ _ _ _ _ g (t .loop-test .taken) _ _ _ (c .before .before .before .before .before .before .before .read-piece .ensures (g .pieces) (g .count) (g .held)) (c .if1 .taken)
 
--- src/lib.rt:209:9
 add-d : tie.Need-add-d Inv-loop μ-loop
 add-d c = search needs
 
--- src/lib.rt:199:5
 loop-less : tie.Need-loop-less Inv-loop μ-loop
 loop-less c = search needs
 
--- src/lib.rt:199:5
 loop-again : tie.Need-loop-again Inv-loop μ-loop
 loop-again c =
-    let l = c .before .before .before .before .before .before .before .before .before .before .before .before .loop in
-    let a = c .before .before .before .before .before .before .before .before .before .before .before .before .before .before .before .before .before .args in
-    let g = l .inv .4 in
+    let t = c .before .before .before .before .before .before .before .before .before .before .before in
+    let g = t .before .loop .inv .4 in
     let r = c .before .before .before .before .before .before .before .read-piece in
-    let t : l .d < a .p = omega arith in
-    (search needs, search needs, search needs, search needs, pieces-turn (a .text .now) (a .n) (a .at) (a .p) (l .d) (l .place) _ _ _ g t (r .result .number) (r .result .next) _ _ _ (r .ensures (g .pieces) (g .count) (g .held)) (c .if1 .left))
+    (search needs, search needs, search needs, search needs, pieces-turn _ _ _ _ _ _ _ _ _ g (t .loop-test .taken) _ _ _ _ _ (r .ensures (g .pieces) (g .count) (g .held)) (c .if1 .left))
 
--- src/lib.rt:185:1
 same-length-4 : tie.Need-same-length-4 Inv-loop μ-loop
 same-length-4 c = search needs
 
--- src/lib.rt:185:1
 same-length-5 : tie.Need-same-length-5 Inv-loop μ-loop
 same-length-5 c = search needs
 
--- src/lib.rt:185:1
 same-length-6 : tie.Need-same-length-6 Inv-loop μ-loop
 same-length-6 c = search needs
 
--- src/lib.rt:185:1
 returns-2 : tie.Need-returns-2 Inv-loop μ-loop
 returns-2 c =
-    let l = c .before .loop in
-    let a = c .before .before .before .before .before .before .args in
-    let g = l .inv .4 in
-    pieces-ended (a .text .now) (a .n) (a .at) (a .p) (l .d) (l .place) _ _ _ g (omega arith)
+    pieces-ended _ _ _ _ _ _ _ _ _ (c .before .loop .inv .4) (omega arith)
 
 pub read-pieces-spec : {M : Type 1} → statement M
 read-pieces-spec =

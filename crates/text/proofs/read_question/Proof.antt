@@ -1,3 +1,4 @@
+-- `read_question`: the line, the source, then the text's end.
 use mathlib.Core.Path.{_≡_, refl}
 use mathlib.Core.Logic.{_≢_}
 use Prim.Native.Nat.{_+_}
@@ -7,40 +8,28 @@ use Rattle.text.specs.Plans.{question-line, question-source, question-op
 use borrow.Author.Needs.{needs}
 use Rattle.text.proofs.read_question.Statement.{statement}
 use Rattle.text.proofs.read_question.Tie as tie
-use Rattle.text.proofs.read_question.Reads as reads
-use Rattle.text.proofs.read_question.Lts as lts
-use Rattle.checks.proofs.judge_source.Reads as judge-source-reads
-use Rattle.text.proofs.read_line.Reads as read-line-reads
 
--- src/lib.rt:229:37
 slice-aggregate-read-line : tie.Need-slice-aggregate-read-line
 slice-aggregate-read-line c = search needs
 
--- src/lib.rt:229:9
 read-line-requires : tie.Need-read-line-requires
 read-line-requires c κs = search needs
 
--- src/lib.rt:230:18
 array-read-source : tie.Need-array-read-source
 array-read-source c = search needs
 
--- src/lib.rt:232:9
 returns : tie.Need-returns
 returns c = question-line _ _ _ _ _ (c .before .before .read-line .ensures) _ refl (c .if1 .taken)
 
--- src/lib.rt:237:9
 judge-source-requires : tie.Need-judge-source-requires
 judge-source-requires c κs = search needs
 
--- src/lib.rt:239:9
 returns-2 : tie.Need-returns-2
 returns-2 c = question-source _ _ _ _ _ (c .before .before .before .before .read-line .ensures) _ refl (c .before .before .if1 .left) _ (c .before .judge-source .ensures) (c .if2 .taken)
 
--- src/lib.rt:244:8
 sub-if3 : tie.Need-sub-if3
 sub-if3 c = search needs
 
--- src/lib.rt:245:9
 returns-3 : tie.Need-returns-3
 returns-3 c =
     let a = c .before .before .before .before .before .before .before .before .args in
@@ -48,7 +37,6 @@ returns-3 c =
     let short : length (a .text .now) ≢ a .at + 7 = λ e. c .if3 .taken (omega arith) in
     question-open _ _ _ _ _ (r .ensures) _ refl (c .before .before .before .if1 .left) _ (c .before .before .judge-source .ensures) (c .before .if2 .left) short
 
--- src/lib.rt:224:1
 returns-4 : tie.Need-returns-4
 returns-4 c =
     let a = c .before .before .before .before .before .before .before .before .args in

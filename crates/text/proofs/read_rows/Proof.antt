@@ -1,5 +1,6 @@
-use mathlib.Core.Path.{_≡_, refl, sym, ap, _∙_}
-use Prim.Native.Nat.{ℕ, _+_, _*_, _≤_, _<_, _-_}
+-- `read_rows`: the table holds the first i rows, and the definition reads the others from the place reached on.
+use mathlib.Core.Path.{_≡_, sym, ap, _∙_}
+use Prim.Native.Nat.{ℕ, _+_, _*_, _≤_, _-_}
 use native.Mathlib.Omega.{arith}
 use borrow.Author.Needs.{needs}
 use lib.ListN.{length, length-replicate}
@@ -8,9 +9,6 @@ use Rattle.definitions.specs.Limits.{tablePlaces}
 use Rattle.text.specs.Rows.{RowsGoing, rows-begun, rows-turn, rows-broken, rows-ended}
 use Rattle.text.proofs.read_rows.Statement.{statement}
 use Rattle.text.proofs.read_rows.Tie as tie
-use Rattle.text.proofs.read_rows.Reads as reads
-use Rattle.text.proofs.read_rows.Lts as lts
-use Rattle.text.proofs.read_row.Reads as read-row-reads
 
 abbrev Inv-loop : tie.InvT-loop
 Inv-loop text at m table₀ i₀ place₀ table i place = (i ≤ m) × (length table ≡ tablePlaces) × RowsGoing text at m i place table
@@ -18,101 +16,79 @@ Inv-loop text at m table₀ i₀ place₀ table i place = (i ≤ m) × (length t
 abbrev μ-loop : tie.MeasureT-loop
 μ-loop text at m table₀ i₀ place₀ table i place = m - i
 
--- src/lib.rt:102:5
+table-long : (s : tie.Start Inv-loop μ-loop) → length (s .args .table .now) ≡ tablePlaces
+table-long s = ap length (s .pre .2) ∙ length-replicate {A = ℕ} tablePlaces 0
+
+-- row i lies in the table
+row-fits : (c : tie.In-loop Inv-loop μ-loop) → 24 * c .before .loop .i + c .before .before .before .before .args .m ≤ length (c .before .loop .table)
+row-fits c = omega (arith, c .loop-test .taken, c .before .before .before .before .pre .1, c .before .loop .inv .1)
+
 loop-holds : tie.Need-loop-holds Inv-loop μ-loop
 loop-holds c =
-    let a = c .before .before .args in
-    let p = c .before .before .pre in
-    (search needs, ap length (p .2) ∙ length-replicate {A = ℕ} tablePlaces 0, rows-begun (a .text .now) (a .at) (a .m) (a .table .now) (p .2) (p .0))
+    let s = c .before .before in
+    (search needs, table-long s, rows-begun _ _ _ _ (s .pre .2) (s .pre .0))
 
--- src/lib.rt:103:17
 mul-a : tie.Need-mul-a Inv-loop μ-loop
 mul-a c = search needs
 
--- src/lib.rt:104:17
 add-e : tie.Need-add-e Inv-loop μ-loop
 add-e c = search needs
 
--- src/lib.rt:105:46
 mul-read-row : tie.Need-mul-read-row Inv-loop μ-loop
 mul-read-row c = search needs
 
--- src/lib.rt:105:46
 sub-read-row : tie.Need-sub-read-row Inv-loop μ-loop
 sub-read-row c = search needs
 
--- src/lib.rt:105:46
 part-read-row-start : tie.Need-part-read-row-start Inv-loop μ-loop
 part-read-row-start c = search needs
 
--- src/lib.rt:105:46
 part-read-row-end : tie.Need-part-read-row-end Inv-loop μ-loop
 part-read-row-end c = search needs
 
--- src/lib.rt:105:13
 read-row-requires : tie.Need-read-row-requires Inv-loop μ-loop
 read-row-requires c κs = search needs
 
--- src/lib.rt:107:13
 same-length : tie.Need-same-length Inv-loop μ-loop
 same-length c =
-    let l = c .before .before .before .before .before .before .loop in
-    let a = c .before .before .before .before .before .before .before .before .before .args in
-    let p = c .before .before .before .before .before .before .before .before .before .pre in
-    let f : 24 * l .i + a .m ≤ length (l .table) = omega arith in
-    part-kept (24 * l .i) (a .m) (l .table) (c .before .before .before .read-row .last .1 .1 .1 .0) (c .before .before .table .given .0) f ∙ l .inv .1 ∙ sym (ap length (p .2) ∙ length-replicate {A = ℕ} tablePlaces 0)
+    let t = c .before .before .before .before .before in
+    part-kept _ _ _ (c .before .before .before .read-row .last .1 .1 .1 .0) (c .before .before .table .given .0) (row-fits t) ∙ t .before .loop .inv .1 ∙ sym (table-long (t .before .before .before .before))
 
--- src/lib.rt:107:13
 returns : tie.Need-returns Inv-loop μ-loop
 returns c =
-    let l = c .before .before .before .before .before .before .loop in
-    let p = c .before .before .before .before .before .before .before .before .before .pre in
-    let a = c .before .before .before .before .before .before .before .before .before .args in
-    let t : l .i < a .m = omega arith in
-    let r = c .before .before .before .read-row in
-    let f : 24 * l .i + a .m ≤ length (l .table) = omega arith in
-    rows-broken (a .text .now) (a .at) (a .m) (l .i) (l .place) (l .table) (l .inv .2) (p .1) t (r .result) _ (r .last .1 .1 .1 .0) _ (part-size (24 * l .i) (a .m) (l .table) f) (r .ensures) (c .if1 .taken)
+    let t = c .before .before .before .before .before in
+    rows-broken _ _ _ _ _ _ (t .before .loop .inv .2) (t .before .before .before .before .pre .1) (t .loop-test .taken) _ _ _ _ (part-size _ _ _ (row-fits t)) (c .before .before .before .read-row .ensures) (c .if1 .taken)
 
--- src/lib.rt:109:18
 mul-place : tie.Need-mul-place Inv-loop μ-loop
 mul-place c = search needs
 
--- src/lib.rt:109:18
 add-place : tie.Need-add-place Inv-loop μ-loop
 add-place c = search needs
 
--- src/lib.rt:109:9
 add-place-2 : tie.Need-add-place-2 Inv-loop μ-loop
 add-place-2 c = search needs
 
--- src/lib.rt:110:9
 add-i : tie.Need-add-i Inv-loop μ-loop
 add-i c = search needs
 
--- src/lib.rt:102:5
 loop-less : tie.Need-loop-less Inv-loop μ-loop
 loop-less c = search needs
 
--- src/lib.rt:102:5
 loop-again : tie.Need-loop-again Inv-loop μ-loop
 loop-again c =
-    let l = c .before .before .before .before .before .before .loop in
-    let p = c .before .before .before .before .before .before .before .before .before .pre in
-    let a = c .before .before .before .before .before .before .before .before .before .args in
-    let t : l .i < a .m = omega arith in
+    let t = c .before .before .before .before .before in
+    let l = t .before .loop in
+    let s = t .before .before .before .before in
     let r = c .before .before .before .read-row in
-    let f : 24 * l .i + a .m ≤ length (l .table) = omega arith in
     let part = r .last .1 .1 .1 .0 in
-    let given = c .before .before .table .given .0 in
-    let e : length part ≡ a .m = part-long (24 * l .i) (a .m) (l .table) part given f in
-    let g = rows-turn (a .text .now) (a .at) (a .m) (l .i) (l .place) (l .table) (l .inv .2) (p .1) t (r .result) _ part (part-size (24 * l .i) (a .m) (l .table) f) (r .ensures) (c .if1 .left) e in
-    (search needs, part-kept (24 * l .i) (a .m) (l .table) part given f ∙ l .inv .1, rw (part-put (24 * l .i) (a .m) (l .table) part given f) g)
+    let lent = c .before .before .table .given .0 in
+    let long = part-long (24 * l .i) (s .args .m) (l .table) part lent (row-fits t) in
+    let g = rows-turn _ _ _ _ _ _ (l .inv .2) (s .pre .1) (t .loop-test .taken) _ _ part (part-size _ _ _ (row-fits t)) (r .ensures) (c .if1 .left) long in
+    (search needs, part-kept _ _ _ part lent (row-fits t) ∙ l .inv .1, rw (part-put (24 * l .i) (s .args .m) (l .table) part lent (row-fits t)) g)
 
--- src/lib.rt:96:1
 same-length-2 : tie.Need-same-length-2 Inv-loop μ-loop
 same-length-2 c = search needs
 
--- src/lib.rt:96:1
 returns-2 : tie.Need-returns-2 Inv-loop μ-loop
 returns-2 c =
     let l = c .before .loop in

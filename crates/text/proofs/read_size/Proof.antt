@@ -1,4 +1,5 @@
-use mathlib.Core.Path.{_≡_, refl, sym, _∙_}
+-- `read_size`: the field, then its judgement.
+use mathlib.Core.Path.{refl, sym, _∙_}
 use mathlib.Core.Logic.{_≢_}
 use Prim.Native.Nat.{ℕ}
 use native.Mathlib.Omega.{arith}
@@ -8,35 +9,25 @@ use Rattle.text.specs.Steps.{came-out, came-judged}
 use borrow.Author.Needs.{needs}
 use Rattle.text.proofs.read_size.Statement.{statement}
 use Rattle.text.proofs.read_size.Tie as tie
-use Rattle.text.proofs.read_size.Reads as reads
-use Rattle.text.proofs.read_size.Lts as lts
-use Rattle.checks.proofs.judge_size.Reads as judge-size-reads
-use Rattle.reader.proofs.field_at.Reads as field-at-reads
 
--- src/lib.rt:85:9
 field-at-requires : tie.Need-field-at-requires
 field-at-requires c κs = search needs
 
--- src/lib.rt:86:23
 enum-known-field : tie.Need-enum-known-field
 enum-known-field c = search needs
 
--- src/lib.rt:87:9
 enum-told : tie.Need-enum-told
 enum-told c = search needs
 
--- src/lib.rt:87:9
 returns : tie.Need-returns
 returns c =
     let e = field-stop _ _ (sym (c .before .before .field-at .ensures) ∙ c .enum-told .given .1) in
     let three : _≢_ {A = ℕ} 3 0 = λ w. omega arith in
     came-out _ _ 3 three (judged-stop judgeSize _ 3 e)
 
--- src/lib.rt:90:17
 judge-size-requires : tie.Need-judge-size-requires
 judge-size-requires c κs = search needs
 
--- src/lib.rt:82:1
 returns-2 : tie.Need-returns-2
 returns-2 c =
     let e = field-go _ _ _ (sym (c .before .before .before .before .field-at .ensures) ∙ c .before .before .field .given .1) in

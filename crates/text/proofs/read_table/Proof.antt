@@ -1,3 +1,4 @@
+-- `read_table`: the rows, then the check of their blocks on the lent table.
 use mathlib.Core.Path.{_≡_, ap, _∙_}
 use Prim.Native.Nat.{ℕ}
 use lib.ListN.{length, length-replicate}
@@ -6,36 +7,25 @@ use Rattle.text.specs.Pieces.{table-broken, table-judged}
 use borrow.Author.Needs.{needs}
 use Rattle.text.proofs.read_table.Statement.{statement}
 use Rattle.text.proofs.read_table.Tie as tie
-use Rattle.text.proofs.read_table.Reads as reads
-use Rattle.text.proofs.read_table.Lts as lts
-use Rattle.checks.proofs.judge_blocks.Reads as judge-blocks-reads
-use Rattle.text.proofs.read_rows.Reads as read-rows-reads
 
--- src/lib.rt:126:9
 read-rows-requires : tie.Need-read-rows-requires
 read-rows-requires c κs = search needs
 
--- src/lib.rt:128:9
 same-length : tie.Need-same-length
 same-length c = search needs
 
--- src/lib.rt:128:9
 returns : tie.Need-returns
 returns c = table-broken _ _ _ _ _ (c .before .before .before .read-rows .ensures) (c .if1 .taken)
 
--- src/lib.rt:130:26
 cast-judge-blocks : tie.Need-cast-judge-blocks
 cast-judge-blocks c = search needs
 
--- src/lib.rt:130:5
 judge-blocks-requires : tie.Need-judge-blocks-requires
 judge-blocks-requires c κs = search needs
 
--- src/lib.rt:122:1
 same-length-2 : tie.Need-same-length-2
 same-length-2 c = search needs
 
--- src/lib.rt:122:1
 returns-2 : tie.Need-returns-2
 returns-2 c =
     let p = c .before .before .before .before .before .before .before .before .before .pre in

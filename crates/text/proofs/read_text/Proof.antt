@@ -1,124 +1,100 @@
-use mathlib.Core.Path.{_≡_, refl, sym, ap, _∙_}
+-- `read_text`: the two refusals that leave the buffers, then the plan in buffers that are 0, cleared again if it is refused.
+use mathlib.Core.Path.{_≡_, sym, ap, _∙_}
+use mathlib.Core.List.{List}
 use Prim.Native.Nat.{ℕ}
 use lib.ListN.{length, replicate, length-replicate}
-use Rattle.definitions.specs.Limits.{sizePlaces, vertexPlaces, lengthPlaces}
+use Rattle.definitions.specs.Entries.{judgeBuffers}
 use Rattle.basics.specs.Causes.{buffers-are}
 use Rattle.text.specs.Pieces.{held-none}
 use Rattle.text.specs.Plans.{after-buffers, after-long, after-done, after-out}
 use borrow.Author.Needs.{needs}
 use Rattle.text.proofs.read_text.Statement.{statement}
 use Rattle.text.proofs.read_text.Tie as tie
-use Rattle.text.proofs.read_text.Reads as reads
-use Rattle.text.proofs.read_text.Lts as lts
-use Rattle.checks.proofs.judge_buffers.Reads as judge-buffers-reads
-use Rattle.text.proofs.clear.Reads as clear-reads
-use Rattle.text.proofs.read_plan.Reads as read-plan-reads
-use Rattle.text.proofs.refusal.Reads as refusal-reads
 
--- src/lib.rt:320:9
+-- the buffers' sizes, once they are accepted
+counts : (c : tie.Else1) → judgeBuffers (length (c .before .before .before .before .before .before .args .sizes .now)) (length (c .before .before .before .before .before .before .args .vertices .now)) (length (c .before .before .before .before .before .before .args .lengths .now)) ≡ 0
+counts c = sym (c .before .judge-buffers .ensures) ∙ c .if1 .left
+
+-- a cleared buffer of a known size, and its length
+zeros : {l : List ℕ} {i k : ℕ} → l ≡ replicate i 0 → i ≡ k → l ≡ replicate k 0
+zeros e q = e ∙ ap (λ (i : ℕ). replicate i 0) q
+
+zeros-long : {l : List ℕ} {n i k : ℕ} → n ≡ length l → l ≡ replicate i 0 → i ≡ k → n ≡ k
+zeros-long same e q = same ∙ ap length e ∙ length-replicate {A = ℕ} _ 0 ∙ q
+
 judge-buffers-requires : tie.Need-judge-buffers-requires
 judge-buffers-requires c κs = search needs
 
--- src/lib.rt:322:9
 refusal-requires : tie.Need-refusal-requires
 refusal-requires c κs = search needs
 
--- src/lib.rt:322:9
 returns : tie.Need-returns
 returns c =
     rw (c .refusal .ensures) (after-buffers _ _ _ _ _ (c .before .before .judge-buffers .ensures) (c .before .if1 .taken))
 
--- src/lib.rt:325:9
 refusal-requires-2 : tie.Need-refusal-requires-2
 refusal-requires-2 c κs = search needs
 
--- src/lib.rt:325:9
 returns-2 : tie.Need-returns-2
 returns-2 c =
-    let k = sym (c .before .before .before .judge-buffers .ensures) ∙ c .before .before .if1 .left in
-    rw (c .refusal2 .ensures) (after-long _ _ _ _ k (c .before .if2 .taken))
+    rw (c .refusal2 .ensures) (after-long _ _ _ _ (counts (c .before .before)) (c .before .if2 .taken))
 
--- src/lib.rt:327:5
 clear-requires : tie.Need-clear-requires
 clear-requires c κs = search needs
 
--- src/lib.rt:328:5
 clear-requires-2 : tie.Need-clear-requires-2
 clear-requires-2 c κs = search needs
 
--- src/lib.rt:329:5
 clear-requires-3 : tie.Need-clear-requires-3
 clear-requires-3 c κs = search needs
 
--- src/lib.rt:330:9
 read-plan-requires : tie.Need-read-plan-requires
 read-plan-requires c κs =
-    let k = sym (c .before .before .before .before .before .before .before .before .before .before .before .before .before .before .before .before .before .judge-buffers .ensures) ∙ c .before .before .before .before .before .before .before .before .before .before .before .before .before .before .before .before .if1 .left in
-    let n = buffers-are _ _ _ k in
-    let c1 = c .before .before .before .before .before .before .before .before .before .before .before .before .before .clear in
-    let c2 = c .before .before .before .before .before .before .before .before .before .clear2 in
-    let c3 = c .before .before .before .before .before .clear3 in
-    held-none _ _ _ (c1 .ensures ∙ ap (λ (i : ℕ). replicate i 0) (n .0)) (c2 .ensures ∙ ap (λ (i : ℕ). replicate i 0) (n .1)) (c3 .ensures ∙ ap (λ (i : ℕ). replicate i 0) (n .2))
+    let n = buffers-are _ _ _ (counts (c .before .before .before .before .before .before .before .before .before .before .before .before .before .before .before .before)) in
+    held-none _ _ _ (zeros (c .before .before .before .before .before .before .before .before .before .before .before .before .before .clear .ensures) (n .0)) (zeros (c .before .before .before .before .before .before .before .before .before .clear2 .ensures) (n .1)) (zeros (c .before .before .before .before .before .clear3 .ensures) (n .2))
 
--- src/lib.rt:333:9
 same-length : tie.Need-same-length
 same-length c = search needs
 
--- src/lib.rt:333:9
 same-length-2 : tie.Need-same-length-2
 same-length-2 c = search needs
 
--- src/lib.rt:333:9
 same-length-3 : tie.Need-same-length-3
 same-length-3 c = search needs
 
--- src/lib.rt:333:9
 returns-3 : tie.Need-returns-3
 returns-3 c =
-    let k = sym (c .before .before .before .before .before .before .before .before .before .before .before .before .before .before .before .before .before .before .before .before .before .before .before .before .before .judge-buffers .ensures) ∙ c .before .before .before .before .before .before .before .before .before .before .before .before .before .before .before .before .before .before .before .before .before .before .before .before .if1 .left in
-    let r = c .before .before .before .before .before .before .before .read-plan in
-    after-done _ _ _ _ k (c .before .before .before .before .before .before .before .before .before .before .before .before .before .before .before .before .before .before .before .before .before .before .before .if2 .left) _ _ _ _ (r .ensures) (c .if3 .taken)
+    let p = c .before .before .before .before .before .before .before in
+    after-done _ _ _ _ (counts (p .before .before .before .before .before .before .before .before .before .before .before .before .before .before .before .before .before)) (p .before .before .before .before .before .before .before .before .before .before .before .before .before .before .before .before .if2 .left) _ _ _ _ (p .read-plan .ensures) (c .if3 .taken)
 
--- src/lib.rt:335:5
 clear-requires-4 : tie.Need-clear-requires-4
 clear-requires-4 c κs = search needs
 
--- src/lib.rt:336:5
 clear-requires-5 : tie.Need-clear-requires-5
 clear-requires-5 c κs = search needs
 
--- src/lib.rt:337:5
 clear-requires-6 : tie.Need-clear-requires-6
 clear-requires-6 c κs = search needs
 
--- src/lib.rt:312:1
 same-length-4 : tie.Need-same-length-4
 same-length-4 c = search needs
 
--- src/lib.rt:312:1
 same-length-5 : tie.Need-same-length-5
 same-length-5 c = search needs
 
--- src/lib.rt:312:1
 same-length-6 : tie.Need-same-length-6
 same-length-6 c = search needs
 
--- src/lib.rt:312:1
 returns-4 : tie.Need-returns-4
 returns-4 c =
-    let k = sym (c .before .before .before .before .before .before .before .before .before .before .before .before .before .before .before .before .before .before .before .before .before .before .before .before .before .before .before .before .before .before .before .before .before .before .before .before .before .judge-buffers .ensures) ∙ c .before .before .before .before .before .before .before .before .before .before .before .before .before .before .before .before .before .before .before .before .before .before .before .before .before .before .before .before .before .before .before .before .before .before .before .before .if1 .left in
-    let n = buffers-are _ _ _ k in
-    let r = c .before .before .before .before .before .before .before .before .before .before .before .before .before .before .before .before .before .before .before .read-plan in
-    let c1 = c .before .before .before .before .before .before .before .before .before .before .before .before .before .before .before .before .before .before .before .before .before .before .before .before .before .before .before .before .before .before .before .before .before .clear in
-    let c2 = c .before .before .before .before .before .before .before .before .before .before .before .before .before .before .before .before .before .before .before .before .before .before .before .before .before .before .before .before .before .clear2 in
-    let c3 = c .before .before .before .before .before .before .before .before .before .before .before .before .before .before .before .before .before .before .before .before .before .before .before .before .before .clear3 in
-    let d1 : length (r .last .1 .0) ≡ sizePlaces = c .before .before .before .before .before .before .before .before .before .before .before .before .before .before .before .before .before .before .sizes2 .given ∙ ap length (c1 .ensures) ∙ length-replicate {A = ℕ} _ 0 ∙ n .0 in
-    let d2 : length (r .last .1 .1 .0) ≡ vertexPlaces = c .before .before .before .before .before .before .before .before .before .before .before .before .before .before .before .before .vertices2 .given ∙ ap length (c2 .ensures) ∙ length-replicate {A = ℕ} _ 0 ∙ n .1 in
-    let d3 : length (r .last .1 .1 .1 .0) ≡ lengthPlaces = c .before .before .before .before .before .before .before .before .before .before .before .before .before .before .lengths2 .given ∙ ap length (c3 .ensures) ∙ length-replicate {A = ℕ} _ 0 ∙ n .2 in
-    let e1 = c .before .before .before .before .before .before .before .before .before .before .clear4 .ensures ∙ ap (λ (i : ℕ). replicate i 0) d1 in
-    let e2 = c .before .before .before .before .before .before .clear5 .ensures ∙ ap (λ (i : ℕ). replicate i 0) d2 in
-    let e3 = c .before .before .clear6 .ensures ∙ ap (λ (i : ℕ). replicate i 0) d3 in
-    after-out _ _ _ _ k (c .before .before .before .before .before .before .before .before .before .before .before .before .before .before .before .before .before .before .before .before .before .before .before .before .before .before .before .before .before .before .before .before .before .before .before .if2 .left) _ _ _ _ _ _ _ (r .ensures) (c .before .before .before .before .before .before .before .before .before .before .before .before .if3 .left) e1 e2 e3
+    let p = c .before .before .before .before .before .before .before .before .before .before .before .before .before .before .before .before .before .before .before in
+    let fit = counts (p .before .before .before .before .before .before .before .before .before .before .before .before .before .before .before .before .before) in
+    let n = buffers-are _ _ _ fit in
+    let sizes-long = zeros-long (c .before .before .before .before .before .before .before .before .before .before .before .before .before .before .before .before .before .before .sizes2 .given) (p .before .before .before .before .before .before .before .before .before .before .before .before .before .before .clear .ensures) (n .0) in
+    let vertices-long = zeros-long (c .before .before .before .before .before .before .before .before .before .before .before .before .before .before .before .before .vertices2 .given) (p .before .before .before .before .before .before .before .before .before .before .clear2 .ensures) (n .1) in
+    let lengths-long = zeros-long (c .before .before .before .before .before .before .before .before .before .before .before .before .before .before .lengths2 .given) (p .before .before .before .before .before .before .clear3 .ensures) (n .2) in
+    after-out _ _ _ _ fit (p .before .before .before .before .before .before .before .before .before .before .before .before .before .before .before .before .if2 .left) _ _ _ _ _ _ _ (p .read-plan .ensures) (c .before .before .before .before .before .before .before .before .before .before .before .before .if3 .left)
+    (zeros (c .before .before .before .before .before .before .before .before .before .before .clear4 .ensures) sizes-long) (zeros (c .before .before .before .before .before .before .clear5 .ensures) vertices-long) (zeros (c .before .before .clear6 .ensures) lengths-long)
 
 pub read-text-spec : {M : Type 1} → statement M
 read-text-spec =

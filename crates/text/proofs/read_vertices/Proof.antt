@@ -1,33 +1,24 @@
+-- `read_vertices`: the line, then its judgement.
 use Rattle.text.specs.Steps.{judged-refused, judged-then}
 use borrow.Author.Needs.{needs}
 use Rattle.text.proofs.read_vertices.Statement.{statement}
 use Rattle.text.proofs.read_vertices.Tie as tie
-use Rattle.text.proofs.read_vertices.Reads as reads
-use Rattle.text.proofs.read_vertices.Lts as lts
-use Rattle.checks.proofs.judge_vertices.Reads as judge-vertices-reads
-use Rattle.text.proofs.read_line.Reads as read-line-reads
 
--- src/lib.rt:57:9
 read-line-requires : tie.Need-read-line-requires
 read-line-requires c κs = search needs
 
--- src/lib.rt:59:9
 same-length : tie.Need-same-length
 same-length c = search needs
 
--- src/lib.rt:59:9
 returns : tie.Need-returns
 returns c = judged-refused _ _ _ _ (c .before .before .before .read-line .ensures) (c .if1 .taken)
 
--- src/lib.rt:61:5
 judge-vertices-requires : tie.Need-judge-vertices-requires
 judge-vertices-requires c κs = search needs
 
--- src/lib.rt:53:1
 same-length-2 : tie.Need-same-length-2
 same-length-2 c = search needs
 
--- src/lib.rt:53:1
 returns-2 : tie.Need-returns-2
 returns-2 c = judged-then _ _ _ _ (c .before .before .before .before .before .read-line .ensures) (c .before .before .if1 .left) _ (c .judge-vertices .ensures)
 

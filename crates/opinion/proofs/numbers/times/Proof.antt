@@ -1,5 +1,5 @@
 -- `opinion::numbers::times` is safe: the product of two numbers of 32 bits has at most 64.
-use Prim.Native.Nat.{_*_, _≤_}
+use Prim.Native.Nat.{_≤_}
 use native.Mathlib.Nat.{mul-le-mul}
 use native.Mathlib.Omega.{arith}
 use borrow.Author.Needs.{needs}
