@@ -9,6 +9,7 @@ ghost use Rattle.definitions.specs.Labelling.{BlockState};
 ghost use Rattle.definitions.specs.Judgement.{piecesOf};
 ghost use Rattle.definitions.specs.Entries.{judgeLabelling, labelNetwork};
 ghost use Rattle.engine.specs.Labelling.State.{Running};
+ghost use Rattle.engine.specs.Labelling.Halves.{halfOf};
 ghost use Rattle.engine.specs.Labelling.Activations.{Spot, Ready, Activated, Askable};
 ghost use Rattle.engine.specs.Labelling.Vertices.{Given, CanSettle, Settles};
 ghost use Rattle.engine.specs.Labelling.Extractions.{Columned, Stepped};
@@ -26,6 +27,36 @@ use definitions::LabelAnswer;
 use layout::Prepared;
 
 // ---- a vertex is activated
+
+// A half of a stretch: its first place, how many places it has, the number of its first window, and that of the window with its places as rows.
+struct Half {
+    start: usize,
+    size: usize,
+    windows: usize,
+    own: usize,
+}
+
+// The half that has place i, of the k places from `start` on, whose windows begin at number s.
+fn half_of(s: usize, start: usize, k: usize, i: usize) -> Half
+    requires { ⌜ (s ≤ 48) × (start ≤ 24) × (k ≤ 24) ⌝ }
+    ensures { λ r. ⌜ r ≡ halfOf s start k i ⌝ }
+{
+    let half = k / 2;
+    if i < start + half {
+        return Half {
+            start,
+            size: half,
+            windows: s + 2,
+            own: s,
+        };
+    }
+    Half {
+        start: start + half,
+        size: k - half,
+        windows: s + 2 * half,
+        own: s + 1,
+    }
+}
 
 // The vertex at place i of a piece is activated, with the label at its place, in every block of the piece that has it as a row: of each
 // stretch the block from its half to the other one. The piece has so many places, and its blocks begin at number `first`. Returns how
@@ -50,25 +81,12 @@ fn activate_place(
     let mut start = 0;
     let mut k = size;
     while k > 1 {
-        let half = k / 2;
-        if i < start + half {
-            inserted += activate_block(heaps, tree, matrix, parts, values, first + s, i - start);
-            s += 2;
-            k = half;
-        } else {
-            start += half;
-            inserted += activate_block(
-                heaps,
-                tree,
-                matrix,
-                parts,
-                values,
-                first + (s + 1),
-                i - start,
-            );
-            s += 2 * half;
-            k -= half;
-        }
+        let half = half_of(s, start, k, i);
+        s = half.windows;
+        start = half.start;
+        k = half.size;
+        let b = first + half.own;
+        inserted += activate_block(heaps, tree, matrix, parts, values, b, i - start);
     }
     inserted
 }

@@ -3,26 +3,27 @@
 --   call-few                           a call inserts at most three intervals
 --   Way                                on the way down, for given states
 --   Calls Goes goes-begun goes-long goes-done    the same for any states that the arrays hold: the loop's invariant
---   first-asked first-few goes-first             the place lies in the first half
---   second-asked second-few goes-second          it lies in the second half
-use mathlib.Core.Path.{_≡_, sym, ap, _∙_}
+--   goes-down half-asked half-few goes-half      the half that has the place
+use mathlib.Core.Path.{_≡_, sym, _∙_}
 use mathlib.Core.List.{List}
-use Prim.Native.Nat.{ℕ, pred, _+_, _-_, _*_, _/_, _≤_, _<_}
+use Prim.Native.Nat.{ℕ, pred, _+_, _-_, _*_, _≤_, _<_}
 use native.Mathlib.Omega.{arith}
 use lib.ListN.{getD, length}
-use Rattle.definitions.specs.Blocks.{Window, windowsOf}
-use Rattle.definitions.specs.Model.{by, Call, extend}
+use Rattle.definitions.specs.Blocks.{windowsOf}
+use Rattle.definitions.specs.Model.{Call, extend}
 use Rattle.definitions.specs.Network.{Piece, sizeOf, Block}
-use Rattle.definitions.specs.Labelling.{BlockState, activation, apply, placeOf, noBlockState}
+use Rattle.definitions.specs.Labelling.{BlockState, activation, apply, noBlockState}
 use Rattle.heap_laws.specs.Traces.{step-new}
 use Rattle.labelling_laws.specs.OneBlock.{Welcome}
 use Rattle.layout.specs.Layout.{rowIn}
 use Rattle.layout.specs.Placements.{length-windowsOf}
 use Rattle.layout.specs.Numbering.{noWindow}
-use Rattle.layout.specs.Stretches.{stretch-fits, stretch-first, stretch-second}
+use Rattle.layout.specs.Stretches.{stretch-fits}
+use Rattle.engine.specs.declared.labelling.Half.{Half}
 use Rattle.engine.specs.Labelling.State.{labelAt, Held, Running, Accepts, Called}
 use Rattle.engine.specs.Labelling.Calls.{count-is, call-is}
-use Rattle.engine.specs.Labelling.Descent.{blockIn, Stands, Descended, descent-begun, first-row, second-row, descent-first, descent-second}
+use Rattle.engine.specs.Labelling.Halves.{halfOf, Halved, halved, level}
+use Rattle.engine.specs.Labelling.Descent.{blockIn, Stands, Descended, descent-begun, own-row, descent-half}
 use Rattle.engine.specs.Labelling.Settling.{PieceDone, piece-done}
 
 -- a piece, where its places begin among those of all pieces, a vertex of it and its label
@@ -86,49 +87,36 @@ module _ (matrix : List (List ℕ)) (parts : List ℕ) (bs : List Block) (values
   way-in : (holds : List BlockState → Type 0) (s start k n : ℕ) → Way holds first i ss x s start k n → s + 2 * pred k ≤ 2 * pred (sizeOf q)
   way-in holds s start k n w = omega (arith, stretch-fits (windowsOf (sizeOf q)) s start k (w .down .stretch), length-windowsOf (sizeOf q) (stands .small))
 
-  module _ (heaps words : List ℕ) (s start k n : ℕ) (w : Way (Running matrix parts bs heaps values words) first i ss x s start k n) (two : 2 ≤ k) where
-    few : s + 2 * pred k ≤ 2 * pred (sizeOf q)
-    few = way-in (Running matrix parts bs heaps values words) s start k n w
+  -- the half that has the place
+  module _ (heaps words : List ℕ) (s start k n : ℕ) (w : Way (Running matrix parts bs heaps values words) first i ss x s start k n) (two : 2 ≤ k) (half : Half) (e : half ≡ halfOf s start k i) where
+    abbrev g : ℕ
+    g = half .own
 
-    -- a block of the stretch that has the vertex as row r, where r is its place from the block's first row on
-    accepts : (g r : ℕ) → s ≤ g → g < s + 2 * pred k → placeOf (x .vertex) 0 (blockIn first ss g .block .rows) ≡ by r 0
-        → labelAt parts values (first + g) r ≡ x .label → Accepts parts bs values (w .states) (first + g) r
-    accepts g r a b row label = record {
-      block-in = omega (arith, stands .fits, few, w .down .long, count-is matrix parts bs heaps values (w .states) (w .kept .held));
-      accepted = rw (w .down .still g a b, label) (ready .welcome g (omega (arith, few)) r 0 row);
-    }
+    in-half : Halved s start k i half
+    in-half = halved s start k i (w .down .low) (w .down .high) two half e
 
-    -- the label of a block's row at place i is the spot's
-    label-there : (g row0 : ℕ) → g < 2 * pred (sizeOf q) → getD (windowsOf (sizeOf q)) g noWindow .row0 ≡ row0 → row0 ≤ i → labelAt parts values (first + g) (i - row0) ≡ x .label
-    label-there g row0 a e b =
-        let z : rowIn parts (first + g) + (i - row0) ≡ x .base + i = omega (arith, ready .rows-at g a, e) in
+    own-in : g < 2 * pred (sizeOf q)
+    own-in = omega (arith, way-in (Running matrix parts bs heaps values words) s start k n w, in-half .after, in-half .upTo)
+
+    -- the label of the block's row at place i is the spot's
+    own-label : labelAt parts values (first + g) (i - half .start) ≡ x .label
+    own-label =
+        let own = level (windowsOf (sizeOf q)) s start k (w .down .stretch) two i half e .row0-is in
+        let z : rowIn parts (first + g) + (i - half .start) ≡ x .base + i = omega (arith, ready .rows-at g own-in, own, in-half .low) in
         rw z (ready .label-is)
 
-    first-label : i < start + k / 2 → labelAt parts values (first + s) (i - start) ≡ x .label
-    first-label r = label-there s start (omega (arith, few)) (ap (λ (w : Window). w .row0) (stretch-first (windowsOf (sizeOf q)) s start k (w .down .stretch) two)) (w .down .low)
+    accepts : Accepts parts bs values (w .states) (first + g) (i - half .start)
+    accepts = record {
+      block-in = omega (arith, stands .fits, own-in, w .down .long, count-is matrix parts bs heaps values (w .states) (w .kept .held));
+      accepted = rw (w .down .still g (in-half .from) (omega (arith, in-half .after, in-half .upTo)), own-label)
+          (ready .welcome g own-in (i - half .start) 0 (own-row q first (x .vertex) i (x .label) ss stands s start k (w .states) n (w .down) two half e));
+    }
 
-    second-label : start + k / 2 ≤ i → labelAt parts values (first + (s + 1)) (i - (start + k / 2)) ≡ x .label
-    second-label r = label-there (s + 1) (start + k / 2) (omega (arith, few)) (ap (λ (w : Window). w .row0) (stretch-second (windowsOf (sizeOf q)) s start k (w .down .stretch) two)) r
-
-    accepts-first : i < start + k / 2 → Accepts parts bs values (w .states) (first + s) (i - start)
-    accepts-first r = accepts s (i - start) (omega arith) (omega arith) (first-row q first (x .vertex) i (x .label) ss stands s start k (w .states) n (w .down) two r) (first-label r)
-
-    accepts-second : start + k / 2 ≤ i → Accepts parts bs values (w .states) (first + (s + 1)) (i - (start + k / 2))
-    accepts-second r =
-        accepts (s + 1) (i - (start + k / 2)) (omega arith) (omega arith) (second-row q first (x .vertex) i (x .label) ss stands s start k (w .states) n (w .down) two r) (second-label r)
-
-    module _ (holds : List BlockState → Type 0) (more : ℕ) where
-      way-first : i < start + k / 2 → Called holds (w .states) (first + s) (activation (i - start) (labelAt parts values (first + s) (i - start))) more
-          → Way holds first i ss x (s + 2) start (k / 2) (n + more)
-      way-first r c =
-          let d : Called holds (w .states) (first + s) (activation (i - start) (x .label)) more = rw (first-label r) at c in
-          record { states = _; kept = d .kept; down = descent-first q first (x .vertex) i (x .label) ss stands s start k (w .states) n (w .down) two more r (d .inserted-is) }
-
-      way-second : start + k / 2 ≤ i → Called holds (w .states) (first + (s + 1)) (activation (i - (start + k / 2)) (labelAt parts values (first + (s + 1)) (i - (start + k / 2)))) more
-          → Way holds first i ss x (s + 2 * (k / 2)) (start + k / 2) (k - k / 2) (n + more)
-      way-second r c =
-          let d : Called holds (w .states) (first + (s + 1)) (activation (i - (start + k / 2)) (x .label)) more = rw (second-label r) at c in
-          record { states = _; kept = d .kept; down = descent-second q first (x .vertex) i (x .label) ss stands s start k (w .states) n (w .down) two more r (d .inserted-is) }
+    way-half : (holds : List BlockState → Type 0) (more : ℕ) → Called holds (w .states) (first + g) (activation (i - half .start) (labelAt parts values (first + g) (i - half .start))) more
+        → Way holds first i ss x (half .windows) (half .start) (half .size) (n + more)
+    way-half holds more c =
+        let d : Called holds (w .states) (first + g) (activation (i - half .start) (x .label)) more = rw own-label at c in
+        record { states = _; kept = d .kept; down = descent-half q first (x .vertex) i (x .label) ss stands s start k (w .states) n (w .down) two half e more (d .inserted-is) }
 
 -- ---- the function's loop
 
@@ -174,47 +162,27 @@ module _ (matrix : List (List ℕ)) (parts values heaps₀ words₀ : List ℕ) 
         → Activated (Running matrix parts bs heaps values words) first size ss x n
     goes-done one bs ss x r h = way-done matrix parts bs values first size i ss x h (Running matrix parts bs heaps values words) s start k n (g .way bs ss x r h) one
 
-    module _ (two : 2 ≤ k) where
-      pub first-asked : i < start + k / 2 → (bs : List Block) × (ss : List BlockState) × Running matrix parts bs heaps values words ss × Accepts parts bs values ss (first + s) (i - start)
-      first-asked r = (can .blocks, way .states, way .kept, accepts-first matrix parts (can .blocks) values first size i (can .states) (can .spot) (can .ready) heaps words s start k n way two r)
+    module _ (two : 2 ≤ k) (half : Half) (e : half ≡ halfOf s start k i) where
+      pub goes-down : Halved s start k i half
+      goes-down = halved s start k i (g .low) (g .high) two half e
 
-      pub second-asked : start + k / 2 ≤ i → (bs : List Block) × (ss : List BlockState) × Running matrix parts bs heaps values words ss
-          × Accepts parts bs values ss (first + (s + 1)) (i - (start + k / 2))
-      second-asked r = (can .blocks, way .states, way .kept, accepts-second matrix parts (can .blocks) values first size i (can .states) (can .spot) (can .ready) heaps words s start k n way two r)
+      pub half-asked : (bs : List Block) × (ss : List BlockState) × Running matrix parts bs heaps values words ss × Accepts parts bs values ss (first + half .own) (i - half .start)
+      half-asked = (can .blocks, way .states, way .kept, accepts matrix parts (can .blocks) values first size i (can .states) (can .spot) (can .ready) heaps words s start k n way two half e)
 
-      module _ (heaps′ words′ : List ℕ) (more : ℕ) where
-        few-more : (b r : ℕ) → ((bs : List Block) × (ss : List BlockState) × Running matrix parts bs heaps values words ss × Accepts parts bs values ss b r)
-            → Calls matrix parts values heaps words heaps′ words′ b r more → more ≤ 3
-        few-more b r a c = call-few matrix parts (a .0) heaps values (a .1) (a .2 .held) b (a .3 .block-in) _ _ more (c (a .0) (a .1) (a .2) (a .3))
+      module _ (heaps′ words′ : List ℕ) (more : ℕ) (c : Calls matrix parts values heaps words heaps′ words′ (first + half .own) (i - half .start) more) where
+        pub half-few : more ≤ 3
+        half-few =
+            let a = half-asked in
+            call-few matrix parts (a .0) heaps values (a .1) (a .2 .held) (first + half .own) (a .3 .block-in) _ _ more (c (a .0) (a .1) (a .2) (a .3))
 
-        pub first-few : i < start + k / 2 → Calls matrix parts values heaps words heaps′ words′ (first + s) (i - start) more → more ≤ 3
-        first-few r c = few-more (first + s) (i - start) (first-asked r) c
-
-        pub second-few : start + k / 2 ≤ i → Calls matrix parts values heaps words heaps′ words′ (first + (s + 1)) (i - (start + k / 2)) more → more ≤ 3
-        second-few r c = few-more (first + (s + 1)) (i - (start + k / 2)) (second-asked r) c
-
-        pub goes-first : i < start + k / 2 → Calls matrix parts values heaps words heaps′ words′ (first + s) (i - start) more
-            → Goes matrix parts values heaps₀ words₀ heaps′ words′ first size i (s + 2) start (k / 2) (n + more)
-        goes-first r c = record {
-          low = g .low;
-          high = r;
-          inside = omega (arith, g .inside);
-          count = omega (arith, g .count, first-few r c);
+        pub goes-half : Goes matrix parts values heaps₀ words₀ heaps′ words′ first size i (half .windows) (half .start) (half .size) (n + more)
+        goes-half = record {
+          low = goes-down .low;
+          high = goes-down .high;
+          inside = omega (arith, g .inside, goes-down .low, goes-down .high, goes-down .upTo);
+          count = omega (arith, g .count, goes-down .shorter, half-few);
           way = λ bs ss x run h.
               let w = g .way bs ss x run h in
-              way-first matrix parts bs values first size i ss x h heaps words s start k n w two (Running matrix parts bs heaps′ values words′) more r
-              (c bs (w .states) (w .kept) (accepts-first matrix parts bs values first size i ss x h heaps words s start k n w two r));
-        }
-
-        pub goes-second : start + k / 2 ≤ i → Calls matrix parts values heaps words heaps′ words′ (first + (s + 1)) (i - (start + k / 2)) more
-            → Goes matrix parts values heaps₀ words₀ heaps′ words′ first size i (s + 2 * (k / 2)) (start + k / 2) (k - k / 2) (n + more)
-        goes-second r c = record {
-          low = r;
-          high = omega (arith, g .high);
-          inside = omega (arith, g .inside);
-          count = omega (arith, g .count, second-few r c);
-          way = λ bs ss x run h.
-              let w = g .way bs ss x run h in
-              way-second matrix parts bs values first size i ss x h heaps words s start k n w two (Running matrix parts bs heaps′ values words′) more r
-              (c bs (w .states) (w .kept) (accepts-second matrix parts bs values first size i ss x h heaps words s start k n w two r));
+              way-half matrix parts bs values first size i ss x h heaps words s start k n w two half e (Running matrix parts bs heaps′ values words′) more
+              (c bs (w .states) (w .kept) (accepts matrix parts bs values first size i ss x h heaps words s start k n w two half e));
         }
