@@ -149,8 +149,8 @@ pub(crate) fn extract_block(
     requires { ⌜ ((bs : List Block) × (ss : List BlockState) × Running (now matrix) (now parts) bs (now heaps) (now values) (now tree) ss × (b < length bs)) ⌝ }
     ensures { λ r. ⌜ ((bs : List Block) (ss : List BlockState) → Running (now (matrix .entry)) (now (parts .entry)) bs (now (heaps .entry)) (now (values .entry)) (now (tree .entry)) ss → b < length bs → Extracts (Running (now (matrix .entry)) (now (parts .entry)) bs (now (heaps .exit)) (now (values .entry)) (now (tree .exit))) ss b (r .answer) (r .inserted)) ⌝ }
 {
-    let taken = extract_heap(heaps, matrix, parts, values, b);
+    let extracted = extract_heap(heaps, matrix, parts, values, b);
     let x = block_key(heaps, matrix, parts, values, b);
     tree::raise(tree, b, x);
-    taken
+    extracted
 }

@@ -13,19 +13,19 @@ ghost use Rattle.engine.specs.Heap.Bisect.{Rises, Between};
 ghost use Rattle.engine.specs.Heap.Search.{sumAt, In, Laid, test, Climbs, Ready, Turned, Ends, Found};
 ghost use Rattle.engine.specs.Heap.Least.{lowerOf, Kept, LeastIn, IsLeast};
 ghost use Rattle.engine.specs.Heap.Holds.{Holds};
-ghost use Rattle.engine.specs.Heap.Calls.{CanActivate, First, Becomes, Takes};
+ghost use Rattle.engine.specs.Heap.Calls.{CanActivate, First, Becomes, ExtractsMin};
 use bounds::Network;
 use definitions::Extraction;
 
 // What stands where in the words.
-pub struct MongeHeap;
+pub(crate) struct MongeHeap;
 
 impl MongeHeap {
     // for 24 columns
-    pub const WORDS: usize = 74;
+    const WORDS: usize = 74;
 
     // no row is activated, no interval is kept
-    pub fn fresh() -> [u32; MongeHeap::WORDS]
+    pub(crate) fn fresh() -> [u32; MongeHeap::WORDS]
         ensures { λ r. ⌜ r ≡ replicate 74 0 ⌝ }
     {
         [0u32; MongeHeap::WORDS]
@@ -40,7 +40,7 @@ impl MongeHeap {
     }
 
     // 1 if a row is activated, else 0
-    pub(crate) fn mark(heap: &[u32]) -> usize
+    fn mark(heap: &[u32]) -> usize
         requires { ⌜ 1 < length (now heap) ⌝ }
         ensures { λ r. ⌜ Word (markOf (now (heap .entry))) r ⌝ }
     {
@@ -368,7 +368,7 @@ fn search(
 // a column with its interval's place before it and its sum after it, or nothing
 pub(crate) enum Lowest {
     At(usize, usize, u32),
-    None,
+    Nothing,
 }
 
 // a later column wins only by a smaller sum
@@ -382,7 +382,7 @@ fn lower(best: Lowest, place: usize, column: usize, sum: u32) -> Lowest
             }
             best
         },
-        Lowest::None => Lowest::At(place, column, sum),
+        Lowest::Nothing => Lowest::At(place, column, sum),
     }
 }
 
@@ -421,7 +421,7 @@ pub(crate) fn least(
     ensures { λ r. ⌜ IsLeast (now (heap .entry)) (now (rows .entry)) col0 (now (labels .entry)) r ⌝ }
 {
     let n = MongeHeap::count(heap);
-    let mut best = Lowest::None;
+    let mut best = Lowest::Nothing;
     let mut k = 0;
     while k < n {
         best = least_in(heap, rows, col0, labels, k, best);
@@ -502,7 +502,7 @@ pub(crate) fn extract_min(
     labels: &[u32],
 ) -> Extracted
     requires { ⌜ ((cols : ℕ) × (m : Model) × Holds (now heap) (now rows) col0 cols (now labels) m) ⌝ }
-    ensures held { λ r. ⌜ ((cols : ℕ) (m : Model) → Holds (now (heap .entry)) (now (rows .entry)) col0 cols (now (labels .entry)) m → Takes (now (heap .exit)) (now (rows .entry)) col0 cols (now (labels .entry)) m (r .answer) (r .inserted) (r .removed)) ⌝ }
+    ensures held { λ r. ⌜ ((cols : ℕ) (m : Model) → Holds (now (heap .entry)) (now (rows .entry)) col0 cols (now (labels .entry)) m → ExtractsMin (now (heap .exit)) (now (rows .entry)) col0 cols (now (labels .entry)) m (r .answer) (r .inserted) (r .removed)) ⌝ }
     ensures long { λ _. ⌜ length (now (heap .exit)) ≡ length (now (heap .entry)) ⌝ }
 {
     let found = least(heap, rows, col0, labels);

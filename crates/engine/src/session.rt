@@ -7,12 +7,14 @@ ghost use lib.Seq.{sets};
 ghost use Rattle.definitions.specs.Limits.{maxSide};
 ghost use Rattle.definitions.specs.Lists.{within, padded};
 ghost use Rattle.definitions.specs.Model.{Model, Call};
-ghost use Rattle.definitions.specs.Entries.{judgeSession, intervalNumbers, callsOf, session};
+ghost use Rattle.definitions.specs.Entries.{judgeSession, intervalNumbers, callsOf, sessionRefusal, session};
 ghost use Rattle.engine.specs.Heap.Words.{countOf, kept};
 ghost use Rattle.engine.specs.Session.Grid.{gridRow, grid};
 ghost use Rattle.engine.specs.Session.Judged.{sizesFit, sidesFit, rowFits, lengthsFit};
 ghost use Rattle.engine.specs.Session.Calls.{Keeps, Steps, activation, refusal, judgeActivation};
 ghost use Rattle.engine.specs.Session.Traces.{Fresh, Ran};
+use crate::buffers::Labels;
+use crate::buffers::fill;
 use crate::heap::Change;
 use crate::heap::MongeHeap;
 use crate::heap::activate;
@@ -23,40 +25,37 @@ use definitions::Extraction;
 use definitions::SessionAnswer;
 
 // The bounds of a session, the sizes of its lent buffers, and the numbers that its calls answer.
-pub struct Session;
+struct Session;
 
 impl Session {
-    pub const MAX_SIDE: u32 = 24;
+    const MAX_SIDE: u32 = 24;
 
-    pub const MAX_CALLS: u32 = 64;
+    const MAX_CALLS: u32 = 64;
 
-    pub const RECTANGLE_PLACES: usize = 576;
+    const RECTANGLE_PLACES: usize = 576;
 
-    pub const CALL_PLACES: usize = 192;
+    const CALL_PLACES: usize = 192;
 
-    pub const ANSWER_PLACES: usize = 192;
+    const ANSWER_PLACES: usize = 192;
 
-    pub const INTERVAL_PLACES: usize = 72;
+    const INTERVAL_PLACES: usize = 72;
 
     // what stands where there is no interval
-    pub const UNUSED: u32 = 255;
+    const UNUSED: u32 = 255;
 
-    // what stands where a row is not activated: no label is as high
-    pub const NO_LABEL: u32 = 4294967295;
-
-    pub const DONE: u32 = 0;
+    const DONE: u32 = 0;
 
     // kind not 1 or 2, or row out of range
-    pub const CALL_FAULT: u32 = 9;
+    const CALL_FAULT: u32 = 9;
 
     // row already activated
-    pub const ROW_AGAIN: u32 = 10;
+    const ROW_AGAIN: u32 = 10;
 
     // label above the limit or below the floor
-    pub const LABEL_BOUNDS: u32 = 11;
+    const LABEL_BOUNDS: u32 = 11;
 
     // no interval is left
-    pub const NOTHING: u32 = 50;
+    const NOTHING: u32 = 50;
 }
 
 // ---- the rectangle
@@ -223,7 +222,7 @@ fn judge_activation(rows: usize, labels: &[u32], floor: u32, row: u32, label: u3
     if place >= rows {
         return Session::CALL_FAULT;
     }
-    if labels[place] != Session::NO_LABEL {
+    if labels[place] != Labels::UNREACHED {
         return Session::ROW_AGAIN;
     }
     if label > Network::MAX_LABEL {
@@ -313,17 +312,6 @@ fn call(
 
 // ---- the buffers
 
-// one number at every place
-pub(crate) fn fill(buffer: &mut [u32], x: u32)
-    ensures { λ _. ⌜ now (buffer .exit) ≡ replicate (length (now (buffer .entry))) x ⌝ }
-{
-    let mut i = 0;
-    while i < buffer.len() {
-        buffer[i] = x;
-        i += 1;
-    }
-}
-
 // the three numbers at place k of a buffer
 fn put_three(buffer: &mut [u32], k: usize, x: u32, y: u32, z: u32)
     requires { ⌜ 3 * k + 3 ≤ length (now buffer) ⌝ }
@@ -396,6 +384,17 @@ fn run_calls(
     Change { inserted, removed }
 }
 
+// What a session that is refused returns.
+fn refused_session(cause: u32) -> SessionAnswer
+    ensures { λ r. ⌜ r ≡ sessionRefusal cause ⌝ }
+{
+    SessionAnswer {
+        number: cause,
+        inserted: 0,
+        removed: 0,
+    }
+}
+
 // A session as document 01 has it. A refusal leaves every buffer.
 pub fn run_session(
     rows: u32,
@@ -410,15 +409,11 @@ pub fn run_session(
 {
     let cause = judge_session(rows, cols, count, lengths, calls, answers, intervals);
     if cause != Cause::NONE {
-        return SessionAnswer {
-            number: cause,
-            inserted: 0,
-            removed: 0,
-        };
+        return refused_session(cause);
     }
     let rectangle = load(lengths);
     let mut heap = MongeHeap::fresh();
-    let mut labels = [Session::NO_LABEL; Network::ROW_PLACES];
+    let mut labels = [Labels::UNREACHED; Network::ROW_PLACES];
     let height = rows as usize;
     let n = count as usize;
     let change = run_calls(

@@ -10,7 +10,7 @@ pub(crate) struct Tournament;
 
 impl Tournament {
     // how many blocks have a leaf; block 0 has the word at this place
-    pub(crate) const BLOCKS: usize = 1024;
+    const BLOCKS: usize = 1024;
     // how many words the caller lends; the word at 0 is not used
     pub(crate) const WORDS: usize = 2048;
     // the key of a block with no interval; a fresh tournament is this in every word

@@ -30,7 +30,7 @@ use Rattle.engine.specs.declared.blocks.Numbers.{Numbers}
 use Rattle.engine.specs.Heap.Search.{entry}
 use Rattle.engine.specs.Heap.Holds.{Holds}
 use Rattle.engine.specs.Heap.Least.{IsLeast, bestOf}
-use Rattle.engine.specs.Heap.Calls.{Becomes, CanActivate, Takes}
+use Rattle.engine.specs.Heap.Calls.{Becomes, CanActivate, ExtractsMin}
 use Rattle.engine.specs.Tree.Words as tree
 use Rattle.engine.specs.Tree.Words.{Changed}
 use Rattle.engine.specs.Labelling.State.{heapIn, windowIn, labelsIn, labelAt, numbersIn, Lies, Held, bests, callAt, Called, Extracts}
@@ -207,11 +207,11 @@ module _ (matrix : List (List ℕ)) (parts : List ℕ) (bs : List Block) (heaps 
         }
 
         pub extracted : (answer : Extraction) (inserted removed : ℕ)
-            → Takes part (take (x .bottom - x .top) (drop (x .top) matrix)) (x .col0) (x .cols) (take (x .bottom - x .top) (drop (x .top) values)) model answer inserted removed
+            → ExtractsMin part (take (x .bottom - x .top) (drop (x .top) matrix)) (x .col0) (x .cols) (take (x .bottom - x .top) (drop (x .top) values)) model answer inserted removed
             → Extracts (Held matrix parts bs after values) ss b answer inserted
         unfolding extend
         extracted answer inserted removed t =
-            let g : Takes part (windowIn parts matrix b) (colIn parts b) (colsIn parts b) (labelsIn parts values b) model answer inserted removed
+            let g : ExtractsMin part (windowIn parts matrix b) (colIn parts b) (colsIn parts b) (labelsIn parts values b) model answer inserted removed
             = rw (lent-rows matrix parts bs heaps values ss h b l x is, lent-labels matrix parts bs heaps values ss h b l x is, is) at t in
             record {
               called = called extraction (extract model (leastFrom (available e model) 0 (colsIn parts b))) inserted removed

@@ -11,7 +11,8 @@ use Prim.Native.Nat.{ℕ, zero, suc, _+_, _*_, _≤_, _<_}
 use native.Mathlib.Omega.{arith}
 use borrow.Author.Tests.{eq-eqb, ne-eqb, eqb-true}
 use lib.Dec.{eqb}
-use lib.ListN.{getD, length, replicate}
+use lib.ListN.{getD, length, take, replicate}
+use lib.Seq.{length-take-le}
 use Rattle.definitions.specs.Limits.{maxSize, sizePlaces, vertexPlaces, lengthPlaces, labelPlaces, unreached}
 use Rattle.definitions.specs.Lists.{firstCause}
 use Rattle.definitions.specs.Network.{Piece, blocks, Distance, weight}
@@ -124,11 +125,15 @@ module _ (n p : ℕ) (sizes vertices lengths : List ℕ) (source : ℕ) (buffer 
         lengths-in = buffers .2;
       }
 
+  -- so many sizes are lent
+  pub pieces-in : p ≤ length sizes
+  pieces-in = omega (arith, fits .pieces-in, buffers .0)
+
   -- the prepared arrays, with heaps of zeros, an idle tournament and a blank label buffer
-  begun : Begun (matrixOf p sizes lengths) (partsOf p sizes) (placesOf p sizes vertices) (firstsOf p sizes) sizes vertices (replicate vertexPlaces 0) (replicate maxWords 0) (replicate 2048 idle)
-      (replicate labelPlaces unreached) p source n qs
+  begun : Begun (matrixOf p sizes lengths) (partsOf p sizes) (placesOf p sizes vertices) (firstsOf p sizes) (take p sizes) vertices (replicate vertexPlaces 0) (replicate maxWords 0) (replicate 2048 idle)
+      (replicate labelPlaces unreached) source n qs
   begun = record {
-    mapped = mapped n p sizes vertices lengths source fits accepted (buffers .0);
+    mapped = rw (length-take-le p sizes pieces-in) (mapped n p sizes vertices lengths source fits accepted);
     running = begins (matrixOf p sizes lengths) (partsOf p sizes) (blocks qs) (prepared n p sizes vertices lengths fits (blocks-fit n qs (suits n qs (accepted .pieces-pass))));
     setting = setting n qs source accepted;
     blank = refl;
@@ -137,10 +142,10 @@ module _ (n p : ℕ) (sizes vertices lengths : List ℕ) (source : ℕ) (buffer 
   -- as the code has them
   module _ (matrix : List (List ℕ)) (parts places firsts cleared : List ℕ) (a : matrix ≡ matrixOf p sizes lengths) (b : parts ≡ partsOf p sizes) (c : places ≡ placesOf p sizes vertices)
       (d : firsts ≡ firstsOf p sizes) (e : cleared ≡ replicate (length buffer) unreached) where
-    pub may-begin : Begun matrix parts places firsts sizes vertices (replicate vertexPlaces 0) (replicate maxWords 0) (replicate 2048 idle) cleared p source n qs
+    pub may-begin : Begun matrix parts places firsts (take p sizes) vertices (replicate vertexPlaces 0) (replicate maxWords 0) (replicate 2048 idle) cleared source n qs
     may-begin = rw (a, b, c, d, e, buffers .3) begun
 
-    pub can-label : CanLabel matrix parts places firsts sizes vertices (replicate vertexPlaces 0) (replicate maxWords 0) (replicate 2048 idle) cleared p source
+    pub can-label : CanLabel matrix parts places firsts (take p sizes) vertices (replicate vertexPlaces 0) (replicate maxWords 0) (replicate 2048 idle) cleared source
     can-label = record { n = n; pieces = qs; begun = may-begin }
 
 -- ---- what the entry returns and leaves

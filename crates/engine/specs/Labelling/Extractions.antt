@@ -1,8 +1,8 @@
 -- A step extracts the column of least sum of all blocks, and its vertex is the one of that column.
 --   Columned                                   where the vertices of the columns stand
---   chosenOf Taken Stepped                     what a step leaves
+--   chosenOf Extracted Stepped                 what a step leaves
 --   chosen-is picked-in picked-part            the block that the tournament gives
---   never-nothing column-in taken              the column that the block answers
+--   never-nothing column-in extracted          the column that the block answers
 use mathlib.Core.Path.{_≡_, sym, ap, _∙_}
 use mathlib.Core.List.{List}
 use Prim.Native.Nat.{ℕ, _+_, _-_, _*_, _≤_, _<_}
@@ -35,7 +35,7 @@ abbrev pub chosenOf : List BlockState → Best
 chosenOf ss = leastFrom (bests ss) 0 (length ss)
 
 -- vertex v, of a column of least sum s of all blocks, is extracted; so many intervals are inserted
-pub record Taken (holds : List BlockState → Type 0) (ss : List BlockState) (v s inserted : ℕ) : Type 0 where
+pub record Extracted (holds : List BlockState → Type 0) (ss : List BlockState) (v s inserted : ℕ) : Type 0 where
   pub block : ℕ
   pub column : ℕ
   pub block-in : block < length ss
@@ -45,7 +45,7 @@ pub record Taken (holds : List BlockState → Type 0) (ss : List BlockState) (v 
   pub vertex-is : columnVertex (getD ss block noBlockState) column ≡ v
 
 abbrev pub Stepped : (List BlockState → Type 0) → List BlockState → Step → Type 0
-Stepped holds ss (step.Vertex v s n) = Taken holds ss v s n
+Stepped holds ss (step.Vertex v s n) = Extracted holds ss v s n
 Stepped holds ss step.Nothing = (chosenOf ss ≡ nobody) × holds ss
 
 module _ (matrix : List (List ℕ)) (parts : List ℕ) (bs : List Block) (heaps values words : List ℕ) (ss : List BlockState) (h : Running matrix parts bs heaps values words ss) where
@@ -92,8 +92,8 @@ module _ (matrix : List (List ℕ)) (parts : List ℕ) (bs : List Block) (heaps 
         pub column-in : (c ≤ lastIn parts b) × (lastIn parts b < length vertices)
         column-in = (column-at .0, omega (arith, column-at .1, columned .vertices-in))
 
-        pub taken : Taken holds ss (getD vertices (lastIn parts b - c) 0) t inserted
-        taken = record {
+        pub extracted : Extracted holds ss (getD vertices (lastIn parts b - c) 0) t inserted
+        extracted = record {
           block = b;
           column = c;
           block-in = omega (arith, lowest .high);

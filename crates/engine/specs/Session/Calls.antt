@@ -26,7 +26,7 @@ use Rattle.heap_laws.specs.Counting.{countNew-same}
 use Rattle.engine.specs.declared.session.Called.{Called}
 use Rattle.engine.specs.Heap.Search.{entry}
 use Rattle.engine.specs.Heap.Holds.{Holds}
-use Rattle.engine.specs.Heap.Calls.{Becomes, CanActivate, Takes}
+use Rattle.engine.specs.Heap.Calls.{Becomes, CanActivate, ExtractsMin}
 
 -- the words hold the model, a row that is not activated has no label, and the floor is the model's
 pub record Keeps (rows : List (List ℕ)) (cols : ℕ) (heap labels : List ℕ) (floor : ℕ) (m : Model) : Type 0 where
@@ -181,7 +181,7 @@ module _ (rows : List (List ℕ)) (cols : ℕ) (heap labels : List ℕ) (floor :
   stepped : stepOf rows cols m k ≡ record { model = extract m found; answer = answerOf (extractionOf found) }
   stepped = step-extract (entry rows 0) (length rows) cols m k kind-is
 
-  pub steps-none : Takes u rows 0 cols labels m Nothing inserted removed → Steps rows cols m k u labels (refusal 50 floor)
+  pub steps-none : ExtractsMin u rows 0 cols labels m Nothing inserted removed → Steps rows cols m k u labels (refusal 50 floor)
   unfolding extract
   steps-none t = go found refl
     where
@@ -197,7 +197,7 @@ module _ (rows : List (List ℕ)) (cols : ℕ) (heap labels : List ℕ) (floor :
           }
       go (by c d) e = let a : Nothing ≡ Column c d = rw e at (t .answer-is) in let z : _≡_ {A = ℕ} 0 1 = cc in absurd (omega arith)
 
-  pub steps-column : (column total : ℕ) → Takes u rows 0 cols labels m (Column column total) inserted removed
+  pub steps-column : (column total : ℕ) → ExtractsMin u rows 0 cols labels m (Column column total) inserted removed
       → Steps rows cols m k u labels (record { code = 0; column = column; total = total; floor = total; inserted = inserted; removed = removed })
   unfolding extract
   steps-column column total t = go found refl

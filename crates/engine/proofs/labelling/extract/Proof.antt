@@ -7,7 +7,7 @@ use lib.ListN.{length}
 use Rattle.definitions.specs.Model.{by, nobody}
 use Rattle.layout.specs.Layout.{lastIn}
 use Rattle.engine.specs.Tree.Words.{Least}
-use Rattle.engine.specs.Labelling.Extractions.{chosen-is, picked-in, picked-part, never-nothing, column-in, taken}
+use Rattle.engine.specs.Labelling.Extractions.{chosen-is, picked-in, picked-part, never-nothing, column-in, extracted}
 use Rattle.engine.proofs.labelling.extract.Statement.{statement}
 use Rattle.engine.proofs.labelling.extract.Tie as tie
 
@@ -92,7 +92,7 @@ same-length-5 : tie.Need-same-length-5
 same-length-5 c = search needs
 
 returns-3 : tie.Need-returns-3
-returns-3 c = λ bs ss h k. taken _ _ bs _ _ _ ss h _ _ (block (c .before .before .before .before .before .before .before .before .before .before .before .before .before)) _ _ _ (c .before .before .before .before .before .before .before .before .before .extract-block .ensures bs ss h (picked-in _ _ bs _ _ _ ss h _ _ (block (c .before .before .before .before .before .before .before .before .before .before .before .before .before)))) _ k _ _ (c .before .before .before .answer .given .1)
+returns-3 c = λ bs ss h k. extracted _ _ bs _ _ _ ss h _ _ (block (c .before .before .before .before .before .before .before .before .before .before .before .before .before)) _ _ _ (c .before .before .before .before .before .before .before .before .before .extract-block .ensures bs ss h (picked-in _ _ bs _ _ _ ss h _ _ (block (c .before .before .before .before .before .before .before .before .before .before .before .before .before)))) _ k _ _ (c .before .before .before .answer .given .1)
 
 pub extract-spec : {M : Type 1} → statement M
 extract-spec =
