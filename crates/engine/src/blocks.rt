@@ -23,6 +23,7 @@ struct Numbers {
     cols: usize,
 }
 
+// What the array of blocks says of block b.
 fn numbers_of(parts: &[u32], b: usize) -> Numbers
     requires { ⌜ partNumbers * b + partNumbers ≤ length (now parts) ⌝ }
     ensures { λ r. ⌜ r ≡ numbersIn (now (parts .entry)) b ⌝ }

@@ -76,7 +76,6 @@ pub record Bounds (matrix : List (List ℕ)) (heaps values : List ℕ) (x : Numb
   pub rows-rise : x .top ≤ x .bottom
   pub rows-in : x .bottom ≤ length matrix
   pub rows-are : length matrix ≡ vertexPlaces
-  pub labels-in : x .bottom ≤ length values
   pub labels-are : length values ≡ vertexPlaces
 
 module _ (matrix : List (List ℕ)) (parts : List ℕ) (bs : List Block) (heaps values : List ℕ) (ss : List BlockState) (h : Held matrix parts bs heaps values ss) (b : ℕ) (l : b < length bs) where
@@ -91,7 +90,6 @@ module _ (matrix : List (List ℕ)) (parts : List ℕ) (bs : List Block) (heaps 
           rows-rise = omega arith;
           rows-in = omega (arith, g .rows-in, h .parted .rows-are);
           rows-are = h .parted .rows-are;
-          labels-in = omega (arith, g .rows-in, h .labels-are);
           labels-are = h .labels-are;
         })
 
