@@ -1,22 +1,25 @@
 // The labelling of a network: Dijkstra's algorithm over the heaps of all blocks.
 ghost use mathlib.Core.Path.{_≡_};
 ghost use mathlib.Core.List.{List};
-ghost use Prim.Native.Nat.{ℕ, _≤_, _<_};
-ghost use lib.ListN.{length, replicate};
-ghost use Rattle.definitions.specs.Limits.{unreached};
+ghost use Prim.Native.Nat.{ℕ, _+_, _≤_, _<_};
+ghost use lib.ListN.{length};
 ghost use Rattle.definitions.specs.Network.{Piece};
 ghost use Rattle.definitions.specs.Blocks.{Block, blocks};
 ghost use Rattle.definitions.specs.Labelling.{BlockState};
 ghost use Rattle.definitions.specs.Judgement.{piecesOf};
 ghost use Rattle.definitions.specs.Entries.{judgeLabelling, labelNetwork};
+ghost use Rattle.engine.specs.Heap.Words.{wordEnd};
 ghost use Rattle.engine.specs.Labelling.State.{Running};
+ghost use Rattle.engine.specs.Labelling.Halves.{halfOf};
 ghost use Rattle.engine.specs.Labelling.Activations.{Spot, Ready, Activated, Askable};
 ghost use Rattle.engine.specs.Labelling.Vertices.{Given, CanSettle, Settles};
 ghost use Rattle.engine.specs.Labelling.Extractions.{Columned, Stepped};
-ghost use Rattle.engine.specs.Labelling.Loop.{Begun, CanLabel, Started, CanFinish, Labelled};
+ghost use Rattle.engine.specs.Labelling.Loop.{startedWith, countedWith, Begun, CanLabel, Underway, CanAdvance, Advanced, Labelled};
 ghost use Rattle.engine.specs.Promises.{Plain};
 use crate::blocks::activate_block;
 use crate::blocks::extract_block;
+use crate::buffers::Labels;
+use crate::buffers::fill;
 use crate::tree;
 use crate::tree::Chosen;
 use crate::tree::Tournament;
@@ -27,6 +30,36 @@ use definitions::LabelAnswer;
 use layout::Prepared;
 
 // ---- a vertex is activated
+
+// A half of a stretch: its first place, how many places it has, the number of its first window, and that of the window with its places as rows.
+struct Half {
+    start: usize,
+    size: usize,
+    windows: usize,
+    own: usize,
+}
+
+// The half that has place i, of the k places from `start` on, whose windows begin at number s.
+fn half_of(s: usize, start: usize, k: usize, i: usize) -> Half
+    requires { ⌜ (s ≤ 48) × (start ≤ 24) × (k ≤ 24) ⌝ }
+    ensures { λ r. ⌜ r ≡ halfOf s start k i ⌝ }
+{
+    let half = k / 2;
+    if i < start + half {
+        return Half {
+            start,
+            size: half,
+            windows: s + 2,
+            own: s,
+        };
+    }
+    Half {
+        start: start + half,
+        size: k - half,
+        windows: s + 2 * half,
+        own: s + 1,
+    }
+}
 
 // The vertex at place i of a piece is activated, with the label at its place, in every block of the piece that has it as a row: of each
 // stretch the block from its half to the other one. The piece has so many places, and its blocks begin at number `first`. Returns how
@@ -51,30 +84,17 @@ fn activate_place(
     let mut start = 0;
     let mut k = size;
     while k > 1 {
-        let half = k / 2;
-        if i < start + half {
-            inserted += activate_block(heaps, tree, matrix, parts, values, first + s, i - start);
-            s += 2;
-            k = half;
-        } else {
-            start += half;
-            inserted += activate_block(
-                heaps,
-                tree,
-                matrix,
-                parts,
-                values,
-                first + (s + 1),
-                i - start,
-            );
-            s += 2 * half;
-            k -= half;
-        }
+        let half = half_of(s, start, k, i);
+        s = half.windows;
+        start = half.start;
+        k = half.size;
+        let b = first + half.own;
+        inserted += activate_block(heaps, tree, matrix, parts, values, b, i - start);
     }
     inserted
 }
 
-// Vertex v is settled with the label l: in each piece that has it the label is stored at its place, and the place is activated. Returns
+// Vertex v is settled with the label l: in each piece that has it, by the sizes as many as there are, the label is stored at its place, and the place is activated. Returns
 // how many intervals are inserted.
 fn settle(
     heaps: &mut [u32],
@@ -85,18 +105,17 @@ fn settle(
     places: &[u32],
     firsts: &[u32],
     sizes: &[u32],
-    p: usize,
     v: usize,
     l: u32,
 ) -> u32
     requires vertex { ⌜ (1 ≤ v) × (v ≤ 256) ⌝ }
-    requires ready { ⌜ CanSettle (now matrix) (now parts) (now places) (now firsts) (now sizes) (now values) (now heaps) (now tree) p v l ⌝ }
-    ensures done { λ n. ⌜ ((vertices : List ℕ) (qs : List Piece) (ss : List BlockState) → Given (now (matrix .entry)) (now (parts .entry)) (now (places .entry)) (now (firsts .entry)) (now (sizes .entry)) (now (values .entry)) (now (heaps .entry)) (now (tree .entry)) p v l vertices qs ss → Settles (Running (now (matrix .entry)) (now (parts .entry)) (blocks qs) (now (heaps .exit)) (now (values .exit)) (now (tree .exit))) v l ss n) ⌝ }
+    requires ready { ⌜ CanSettle (now matrix) (now parts) (now places) (now firsts) (now sizes) (now values) (now heaps) (now tree) (length (now sizes)) v l ⌝ }
+    ensures done { λ n. ⌜ ((vertices : List ℕ) (qs : List Piece) (ss : List BlockState) → Given (now (matrix .entry)) (now (parts .entry)) (now (places .entry)) (now (firsts .entry)) (now (sizes .entry)) (now (values .entry)) (now (heaps .entry)) (now (tree .entry)) (length (now (sizes .entry))) v l vertices qs ss → Settles (Running (now (matrix .entry)) (now (parts .entry)) (blocks qs) (now (heaps .exit)) (now (values .exit)) (now (tree .exit))) v l ss n) ⌝ }
     ensures few { λ n. ⌜ n ≤ 1152 ⌝ }
 {
     let mut inserted = 0;
     let mut d = 0;
-    while d < p {
+    while d < sizes.len() {
         let at = places[Network::SIZE_PLACES * (v - 1) + d] as usize;
         if at > 0 {
             let i = at - 1;
@@ -134,28 +153,90 @@ fn extract(
     let Chosen::Block(b, _) = chosen else {
         return Step::Nothing;
     };
-    let taken = extract_block(heaps, tree, matrix, parts, values, b);
-    let answer = taken.answer;
+    let extracted = extract_block(heaps, tree, matrix, parts, values, b);
+    let answer = extracted.answer;
     let Extraction::Column(column, sum) = answer else {
         return Step::Nothing;
     };
     let last = parts[Prepared::PART * b + 4] as usize;
     let v = vertices[last - column as usize] as usize;
-    Step::Vertex(v, sum, taken.inserted)
+    Step::Vertex(v, sum, extracted.inserted)
 }
 
 // ---- the loop
 
-// What stands in the label buffer.
-pub struct Labels;
-
-impl Labels {
-    // where a vertex is not reached, and above n
-    pub const UNREACHED: u32 = 4294967295;
+// The answer when the source is settled, which inserted so many intervals.
+fn started(inserted: u32) -> LabelAnswer
+    ensures { λ r. ⌜ r ≡ startedWith inserted ⌝ }
+{
+    LabelAnswer {
+        number: Cause::NONE,
+        reached: 1,
+        extracted: 0,
+        inserted,
+    }
 }
 
-// The steps after the source is settled, which inserted so many intervals: "A gate not yet settled gets that sum as its label and is told to
-// all blocks where it is a row", until no block has an interval.
+// The answer after one extraction more, which reached so many vertices and inserted so many intervals.
+fn counted(answer: LabelAnswer, vertices: u32, inserted: u32) -> LabelAnswer
+    requires { ⌜ (answer .reached + vertices < wordEnd) × (answer .extracted + 1 < wordEnd) × (answer .inserted + inserted < wordEnd) ⌝ }
+    ensures { λ r. ⌜ r ≡ countedWith answer vertices inserted ⌝ }
+{
+    LabelAnswer {
+        number: answer.number,
+        reached: answer.reached + vertices,
+        extracted: answer.extracted + 1,
+        inserted: answer.inserted + inserted,
+    }
+}
+
+// The answer after one step more, or no block has an interval.
+enum Progress {
+    Next(LabelAnswer),
+    Ended,
+}
+
+// One step: "A gate not yet settled gets that sum as its label and is told to all blocks where it is a row".
+fn advance(
+    heaps: &mut [u32],
+    tree: &mut [u64],
+    values: &mut [u32],
+    labels: &mut [u32],
+    matrix: &[[u32; Network::ROW_PLACES]],
+    parts: &[u32],
+    places: &[u32],
+    firsts: &[u32],
+    sizes: &[u32],
+    vertices: &[u32],
+    answer: LabelAnswer,
+) -> Progress
+    requires { ⌜ CanAdvance (now matrix) (now parts) (now places) (now firsts) (now sizes) (now vertices) (now values) (now heaps) (now tree) (now labels) answer ⌝ }
+    ensures { λ r. ⌜ ((source n : ℕ) (qs : List Piece) → Underway (now (matrix .entry)) (now (parts .entry)) (now (places .entry)) (now (firsts .entry)) (now (sizes .entry)) (now (vertices .entry)) (now (values .entry)) (now (heaps .entry)) (now (tree .entry)) (now (labels .entry)) answer source n qs → Advanced (λ next. Underway (now (matrix .entry)) (now (parts .entry)) (now (places .entry)) (now (firsts .entry)) (now (sizes .entry)) (now (vertices .entry)) (now (values .exit)) (now (heaps .exit)) (now (tree .exit)) (now (labels .exit)) next source n qs) (Labelled (blocks qs) source answer (now (labels .exit))) answer r) ⌝ }
+{
+    let step = extract(heaps, tree, values, matrix, parts, vertices);
+    let Step::Vertex(v, sum, added) = step else {
+        return Progress::Ended;
+    };
+    if labels[v - 1] != Labels::UNREACHED {
+        return Progress::Next(counted(answer, 0, added));
+    }
+    labels[v - 1] = sum;
+    let more = settle(
+        heaps,
+        tree,
+        values,
+        matrix,
+        parts,
+        places,
+        firsts,
+        sizes,
+        v,
+        sum,
+    );
+    Progress::Next(counted(answer, 1, added + more))
+}
+
+// The steps after the source is settled, which inserted so many intervals, until no block has an interval.
 fn run_steps(
     heaps: &mut [u32],
     tree: &mut [u64],
@@ -167,45 +248,30 @@ fn run_steps(
     firsts: &[u32],
     sizes: &[u32],
     vertices: &[u32],
-    p: usize,
-    source: usize,
     begun: u32,
 ) -> LabelAnswer
-    requires { ⌜ CanFinish (now matrix) (now parts) (now places) (now firsts) (now sizes) (now vertices) (now values) (now heaps) (now tree) (now labels) p source begun ⌝ }
-    ensures { λ r. ⌜ ((n : ℕ) (qs : List Piece) → Started (now (matrix .entry)) (now (parts .entry)) (now (places .entry)) (now (firsts .entry)) (now (sizes .entry)) (now (vertices .entry)) (now (values .entry)) (now (heaps .entry)) (now (tree .entry)) (now (labels .entry)) p source begun n qs → Labelled (blocks qs) source r (now (labels .exit))) ⌝ }
+    requires { ⌜ CanAdvance (now matrix) (now parts) (now places) (now firsts) (now sizes) (now vertices) (now values) (now heaps) (now tree) (now labels) (startedWith begun) ⌝ }
+    ensures { λ r. ⌜ ((source n : ℕ) (qs : List Piece) → Underway (now (matrix .entry)) (now (parts .entry)) (now (places .entry)) (now (firsts .entry)) (now (sizes .entry)) (now (vertices .entry)) (now (values .entry)) (now (heaps .entry)) (now (tree .entry)) (now (labels .entry)) (startedWith begun) source n qs → Labelled (blocks qs) source r (now (labels .exit))) ⌝ }
 {
-    let mut reached = 1;
-    let mut extracted = 0;
-    let mut inserted = begun;
+    let mut answer = started(begun);
     loop {
-        let step = extract(heaps, tree, values, matrix, parts, vertices);
-        let Step::Vertex(v, sum, added) = step else {
-            return LabelAnswer {
-                number: Cause::NONE,
-                reached,
-                extracted,
-                inserted,
-            };
+        let progress = advance(
+            heaps,
+            tree,
+            values,
+            labels,
+            matrix,
+            parts,
+            places,
+            firsts,
+            sizes,
+            vertices,
+            answer,
+        );
+        let Progress::Next(next) = progress else {
+            return answer;
         };
-        extracted += 1;
-        inserted += added;
-        if labels[v - 1] == Labels::UNREACHED {
-            labels[v - 1] = sum;
-            reached += 1;
-            inserted += settle(
-                heaps,
-                tree,
-                values,
-                matrix,
-                parts,
-                places,
-                firsts,
-                sizes,
-                p,
-                v,
-                sum,
-            );
-        }
+        answer = next;
     }
 }
 
@@ -221,11 +287,10 @@ fn label_all(
     firsts: &[u32],
     sizes: &[u32],
     vertices: &[u32],
-    p: usize,
     source: usize,
 ) -> LabelAnswer
-    requires { ⌜ CanLabel (now matrix) (now parts) (now places) (now firsts) (now sizes) (now vertices) (now values) (now heaps) (now tree) (now labels) p source ⌝ }
-    ensures { λ r. ⌜ ((n : ℕ) (qs : List Piece) → Begun (now (matrix .entry)) (now (parts .entry)) (now (places .entry)) (now (firsts .entry)) (now (sizes .entry)) (now (vertices .entry)) (now (values .entry)) (now (heaps .entry)) (now (tree .entry)) (now (labels .entry)) p source n qs → Labelled (blocks qs) source r (now (labels .exit))) ⌝ }
+    requires { ⌜ CanLabel (now matrix) (now parts) (now places) (now firsts) (now sizes) (now vertices) (now values) (now heaps) (now tree) (now labels) source ⌝ }
+    ensures { λ r. ⌜ ((n : ℕ) (qs : List Piece) → Begun (now (matrix .entry)) (now (parts .entry)) (now (places .entry)) (now (firsts .entry)) (now (sizes .entry)) (now (vertices .entry)) (now (values .entry)) (now (heaps .entry)) (now (tree .entry)) (now (labels .entry)) source n qs → Labelled (blocks qs) source r (now (labels .exit))) ⌝ }
 {
     labels[source - 1] = 0;
     let begun = settle(
@@ -237,7 +302,6 @@ fn label_all(
         places,
         firsts,
         sizes,
-        p,
         source,
         0,
     );
@@ -252,24 +316,11 @@ fn label_all(
         firsts,
         sizes,
         vertices,
-        p,
-        source,
         begun,
     )
 }
 
 // ---- the entry
-
-// Every place of the label buffer is unreached.
-fn clear(labels: &mut [u32])
-    ensures { λ _. ⌜ now (labels .exit) ≡ replicate (length (now (labels .entry))) unreached ⌝ }
-{
-    let mut i = 0;
-    while i < labels.len() {
-        labels[i] = Labels::UNREACHED;
-        i += 1;
-    }
-}
 
 // "Labelling repeats 4 to 7 on the network it is lent, then 8", and 1 before them.
 fn judge(
@@ -312,7 +363,8 @@ fn label_accepted(
     let mut heaps = [0u32; Prepared::WORDS];
     let mut tree = [Tournament::IDLE; Tournament::WORDS];
     let mut values = [0u32; Network::VERTEX_PLACES];
-    clear(labels);
+    let pieces = p as usize;
+    fill(labels, Labels::UNREACHED);
     label_all(
         &mut heaps,
         &mut tree,
@@ -322,9 +374,8 @@ fn label_accepted(
         &parts,
         &places,
         &firsts,
-        sizes,
+        &sizes[..pieces],
         vertices,
-        p as usize,
         source as usize,
     )
 }

@@ -2,17 +2,19 @@
 ghost use mathlib.Core.Path.{_≡_};
 ghost use mathlib.Core.List.{[], _∷_, flatMap};
 ghost use Prim.Native.Nat.{ℕ, _+_, _*_, _≤_, _<_};
-ghost use lib.ListN.{length, replicate};
+ghost use lib.ListN.{length};
 ghost use lib.Seq.{sets};
 ghost use Rattle.definitions.specs.Limits.{maxSide};
 ghost use Rattle.definitions.specs.Lists.{within, padded};
 ghost use Rattle.definitions.specs.Model.{Model, Call};
-ghost use Rattle.definitions.specs.Entries.{judgeSession, intervalNumbers, callsOf, session};
+ghost use Rattle.definitions.specs.Entries.{judgeSession, intervalNumbers, callsOf, sessionRefusal, session};
 ghost use Rattle.engine.specs.Heap.Words.{countOf, kept};
 ghost use Rattle.engine.specs.Session.Grid.{gridRow, grid};
 ghost use Rattle.engine.specs.Session.Judged.{sizesFit, sidesFit, rowFits, lengthsFit};
 ghost use Rattle.engine.specs.Session.Calls.{Keeps, Steps, activation, refusal, judgeActivation};
 ghost use Rattle.engine.specs.Session.Traces.{Fresh, Ran};
+use crate::buffers::Labels;
+use crate::buffers::fill;
 use crate::heap::Change;
 use crate::heap::MongeHeap;
 use crate::heap::activate;
@@ -23,45 +25,42 @@ use definitions::Extraction;
 use definitions::SessionAnswer;
 
 // The bounds of a session, the sizes of its lent buffers, and the numbers that its calls answer.
-pub struct Session;
+struct Session;
 
 impl Session {
-    pub const MAX_SIDE: u32 = 24;
+    const MAX_SIDE: u32 = 24;
 
-    pub const MAX_CALLS: u32 = 64;
+    const MAX_CALLS: u32 = 64;
 
-    pub const RECTANGLE_PLACES: usize = 576;
+    const RECTANGLE_PLACES: usize = 576;
 
-    pub const CALL_PLACES: usize = 192;
+    const CALL_PLACES: usize = 192;
 
-    pub const ANSWER_PLACES: usize = 192;
+    const ANSWER_PLACES: usize = 192;
 
-    pub const INTERVAL_PLACES: usize = 72;
+    const INTERVAL_PLACES: usize = 72;
 
-    // what stands where there is no interval
-    pub const UNUSED: u32 = 255;
+    // What stands where there is no interval.
+    const UNUSED: u32 = 255;
 
-    // what stands where a row is not activated: no label is as high
-    pub const NO_LABEL: u32 = 4294967295;
+    const DONE: u32 = 0;
 
-    pub const DONE: u32 = 0;
+    // The kind is not 1 or 2, or the row is out of range.
+    const CALL_FAULT: u32 = 9;
 
-    // kind not 1 or 2, or row out of range
-    pub const CALL_FAULT: u32 = 9;
+    // The row is already activated.
+    const ROW_AGAIN: u32 = 10;
 
-    // row already activated
-    pub const ROW_AGAIN: u32 = 10;
+    // The label is above the limit or below the floor.
+    const LABEL_BOUNDS: u32 = 11;
 
-    // label above the limit or below the floor
-    pub const LABEL_BOUNDS: u32 = 11;
-
-    // no interval is left
-    pub const NOTHING: u32 = 50;
+    // No interval is left.
+    const NOTHING: u32 = 50;
 }
 
 // ---- the rectangle
 
-// row i of the lent lengths
+// Row i of the lent lengths.
 fn grid_row(lengths: &[u32], i: usize) -> [u32; Network::ROW_PLACES]
     requires { ⌜ (i < 24) × (length (now lengths) ≡ 576) ⌝ }
     ensures { λ r. ⌜ r ≡ gridRow (now (lengths .entry)) i ⌝ }
@@ -75,7 +74,7 @@ fn grid_row(lengths: &[u32], i: usize) -> [u32; Network::ROW_PLACES]
     row
 }
 
-// the lent lengths as rows
+// The lent lengths as rows.
 fn load(lengths: &[u32]) -> [[u32; Network::ROW_PLACES]; Network::ROW_PLACES]
     requires { ⌜ length (now lengths) ≡ 576 ⌝ }
     ensures { λ r. ⌜ r ≡ grid (now (lengths .entry)) ⌝ }
@@ -92,7 +91,7 @@ fn load(lengths: &[u32]) -> [[u32; Network::ROW_PLACES]; Network::ROW_PLACES]
 
 // ---- the judgement
 
-// whether each lent buffer has its size
+// Whether each lent buffer has its size.
 fn sizes_fit(lengths: usize, calls: usize, answers: usize, intervals: usize) -> bool
     ensures { λ r. ⌜ r ≡ sizesFit lengths calls answers intervals ⌝ }
 {
@@ -108,14 +107,14 @@ fn sizes_fit(lengths: usize, calls: usize, answers: usize, intervals: usize) -> 
     intervals == Session::INTERVAL_PLACES
 }
 
-// whether x rows or columns are within bounds
+// Whether x rows or columns are within bounds.
 fn side_fits(x: u32) -> bool
     ensures { λ r. ⌜ r ≡ within maxSide x ⌝ }
 {
     1 <= x && x <= Session::MAX_SIDE
 }
 
-// whether rows, columns and the number of calls are
+// Whether the rows, the columns and the number of calls are within bounds.
 fn sides_fit(rows: u32, cols: u32, count: u32) -> bool
     ensures { λ r. ⌜ r ≡ sidesFit rows cols count ⌝ }
 {
@@ -128,7 +127,7 @@ fn sides_fit(rows: u32, cols: u32, count: u32) -> bool
     count <= Session::MAX_CALLS
 }
 
-// whether the used lengths of row i are within the limit
+// Whether the used lengths of row i are within the limit.
 fn row_fits(lengths: &[u32], i: usize, cols: usize) -> bool
     requires { ⌜ (i < 24) × (cols ≤ 24) × (length (now lengths) ≡ 576) ⌝ }
     ensures { λ r. ⌜ r ≡ rowFits (now (lengths .entry)) cols i ⌝ }
@@ -143,7 +142,7 @@ fn row_fits(lengths: &[u32], i: usize, cols: usize) -> bool
     true
 }
 
-// whether all used lengths are
+// Whether all used lengths are within the limit.
 fn lengths_fit(lengths: &[u32], rows: usize, cols: usize) -> bool
     requires { ⌜ (rows ≤ 24) × (cols ≤ 24) × (length (now lengths) ≡ 576) ⌝ }
     ensures { λ r. ⌜ r ≡ lengthsFit (now (lengths .entry)) rows cols ⌝ }
@@ -158,7 +157,7 @@ fn lengths_fit(lengths: &[u32], rows: usize, cols: usize) -> bool
     true
 }
 
-// 1, 4, 6, 7, or 0 for a session that is accepted; unused places are not read
+// 1, 4, 6 or 7, or 0 for a session that is accepted. Unused places are not read.
 fn judge_session(
     rows: u32,
     cols: u32,
@@ -200,7 +199,7 @@ struct Called {
     removed: u32,
 }
 
-// the answer of a call that changes nothing
+// The answer of a call that changes nothing.
 fn refused(code: u32, floor: u32) -> Called
     ensures { λ r. ⌜ r ≡ refusal code floor ⌝ }
 {
@@ -214,7 +213,7 @@ fn refused(code: u32, floor: u32) -> Called
     }
 }
 
-// 9, 10, 11, or 0 for an activation that is accepted
+// 9, 10 or 11, or 0 for an activation that is accepted.
 fn judge_activation(rows: usize, labels: &[u32], floor: u32, row: u32, label: u32) -> u32
     requires { ⌜ rows ≤ length (now labels) ⌝ }
     ensures { λ r. ⌜ r ≡ judgeActivation rows (now (labels .entry)) floor row label ⌝ }
@@ -223,7 +222,7 @@ fn judge_activation(rows: usize, labels: &[u32], floor: u32, row: u32, label: u3
     if place >= rows {
         return Session::CALL_FAULT;
     }
-    if labels[place] != Session::NO_LABEL {
+    if labels[place] != Labels::UNREACHED {
         return Session::ROW_AGAIN;
     }
     if label > Network::MAX_LABEL {
@@ -313,18 +312,7 @@ fn call(
 
 // ---- the buffers
 
-// one number at every place
-pub(crate) fn fill(buffer: &mut [u32], x: u32)
-    ensures { λ _. ⌜ now (buffer .exit) ≡ replicate (length (now (buffer .entry))) x ⌝ }
-{
-    let mut i = 0;
-    while i < buffer.len() {
-        buffer[i] = x;
-        i += 1;
-    }
-}
-
-// the three numbers at place k of a buffer
+// The three numbers at place k of a buffer.
 fn put_three(buffer: &mut [u32], k: usize, x: u32, y: u32, z: u32)
     requires { ⌜ 3 * k + 3 ≤ length (now buffer) ⌝ }
     ensures { λ _. ⌜ now (buffer .exit) ≡ sets (now (buffer .entry)) (3 * k) (x ∷ y ∷ z ∷ []) ⌝ }
@@ -335,7 +323,7 @@ fn put_three(buffer: &mut [u32], k: usize, x: u32, y: u32, z: u32)
     buffer[at + 2] = z;
 }
 
-// the kept intervals from the front of a buffer, and what marks the places behind them as unused
+// The kept intervals from the front of a buffer, and behind them the mark of unused places.
 fn put_intervals(heap: &[u32], buffer: &mut [u32])
     requires { ⌜ (2 + 3 * countOf (now heap) ≤ length (now heap)) × (3 * countOf (now heap) ≤ length (now buffer)) ⌝ }
     ensures { λ _. ⌜ now (buffer .exit) ≡ padded (length (now (buffer .entry))) 255 (flatMap intervalNumbers (kept (now (heap .entry)))) ⌝ }
@@ -396,6 +384,17 @@ fn run_calls(
     Change { inserted, removed }
 }
 
+// What a session that is refused returns.
+fn refused_session(cause: u32) -> SessionAnswer
+    ensures { λ r. ⌜ r ≡ sessionRefusal cause ⌝ }
+{
+    SessionAnswer {
+        number: cause,
+        inserted: 0,
+        removed: 0,
+    }
+}
+
 // A session as document 01 has it. A refusal leaves every buffer.
 pub fn run_session(
     rows: u32,
@@ -410,15 +409,11 @@ pub fn run_session(
 {
     let cause = judge_session(rows, cols, count, lengths, calls, answers, intervals);
     if cause != Cause::NONE {
-        return SessionAnswer {
-            number: cause,
-            inserted: 0,
-            removed: 0,
-        };
+        return refused_session(cause);
     }
     let rectangle = load(lengths);
     let mut heap = MongeHeap::fresh();
-    let mut labels = [Session::NO_LABEL; Network::ROW_PLACES];
+    let mut labels = [Labels::UNREACHED; Network::ROW_PLACES];
     let height = rows as usize;
     let n = count as usize;
     let change = run_calls(

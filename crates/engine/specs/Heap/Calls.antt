@@ -3,7 +3,7 @@
 --   CanActivate                      what an activation asks
 --   First first-done activated-first the first row gets all columns
 --   activated-none activated-some    nothing is won; columns are won
---   Takes extracted-..               an extraction
+--   ExtractsMin extracted-..         an extraction
 use mathlib.Core.Path.{_≡_, refl, sym, ap, _∙_}
 use mathlib.Core.Bool.{Bool, true, false, cond}
 use mathlib.Core.List.{List, [], _∷_, _++_}
@@ -32,7 +32,8 @@ use Rattle.engine.specs.Heap.Words.{countOf, markOf, firstAt, lastAt, sp
 use Rattle.engine.specs.Heap.Clear.{restLen-most, countAfter, Stretch, Room, Cleared}
 use Rattle.engine.specs.Heap.Search.{entry, In, wins, Found}
 use Rattle.engine.specs.Heap.Holds.{mark, Holds, run-at, count-most, Where, within, outside, where-is, laid, wins-is}
-use Rattle.engine.specs.declared.heap.Lowest.the-variants.{At, None}
+use Rattle.engine.specs.declared.heap.Lowest.the-variants as lowest
+use Rattle.engine.specs.declared.heap.Lowest.the-variants.{At}
 use Rattle.engine.specs.Heap.Least.{IsLeast}
 use Rattle.engine.specs.Heap.Cuts.{cut-lengths, clear-trims, clear-kept, span-put}
 
@@ -245,12 +246,12 @@ module _ (w : List ℕ) (rows : List (List ℕ)) (col0 cols : ℕ) (labels : Lis
 -- ---- an extraction
 
 -- the column found is extracted and answered
-pub record Takes (u : List ℕ) (rows : List (List ℕ)) (col0 cols : ℕ) (labels : List ℕ) (m : Model) (answer : Extraction) (inserted removed : ℕ) : Type 0 where
+pub record ExtractsMin (u : List ℕ) (rows : List (List ℕ)) (col0 cols : ℕ) (labels : List ℕ) (m : Model) (answer : Extraction) (inserted removed : ℕ) : Type 0 where
   pub changed : Becomes u rows col0 cols labels m (extract m (leastFrom (available (entry rows col0) m) 0 cols)) inserted removed
   pub answer-is : answer ≡ extractionOf (leastFrom (available (entry rows col0) m) 0 cols)
 
 module _ (w : List ℕ) (rows : List (List ℕ)) (col0 cols : ℕ) (labels : List ℕ) (m : Model) (h : Holds w rows col0 cols labels m) where
-  pub extracted-none : IsLeast w rows col0 labels None → Takes w rows col0 cols labels m Nothing 0 0
+  pub extracted-none : IsLeast w rows col0 labels lowest.Nothing → ExtractsMin w rows col0 cols labels m Nothing 0 0
   unfolding extract
   extracted-none g =
       let q : nobody ≡ leastFrom (available (entry rows col0) m) 0 cols = g .found cols m h in
@@ -285,7 +286,7 @@ module _ (w : List ℕ) (rows : List (List ℕ)) (col0 cols : ℕ) (labels : Lis
       extracted-small u mid rests x = omega (arith, x .number, restLen-most (firstAt w k) c, restLen-most (c + 1) (lastAt w (k + 1 - 1) + 1))
 
       pub extracted-some : IsLeast w rows col0 labels (At k c s) → (u : List ℕ) (mid rests : ℕ) → Cleared w u k (k + 1) c (c + 1) 0 mid rests
-          → Takes u rows col0 cols labels m (Column c s) rests 1
+          → ExtractsMin u rows col0 cols labels m (Column c s) rests 1
       unfolding extract
       extracted-some g u mid rests x =
           let q : by c s ≡ leastFrom (available (entry rows col0) m) 0 cols = g .found cols m h in

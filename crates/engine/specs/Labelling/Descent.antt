@@ -2,12 +2,12 @@
 --   blockIn Stands                                what is given: the piece, its blocks, the vertex's place
 --   Descended                                     what the blocks are on the way down
 --   descent-begun descent-done                    the beginning and the end
---   first-row second-row descent-first descent-second    one level: the place lies in the first half of the stretch, or in the second
+--   own-row descent-half                          one level: the half of the stretch that has the place
 use mathlib.Core.Path.{_≡_, refl, sym, _∙_}
 use mathlib.Core.List.{List}
 use mathlib.Core.Logic.{_⊎_, inl, inr, ⊎-elim, _≢_}
 use mathlib.Core.Option.{none, some}
-use Prim.Native.Nat.{ℕ, pred, _+_, _-_, _*_, _/_, _≤_, _<_}
+use Prim.Native.Nat.{ℕ, pred, _+_, _-_, _*_, _≤_, _<_}
 use native.Mathlib.Omega.{arith}
 use lib.ListN.{getD, length, set, length-set}
 use lib.Seq.{getD-set-same, getD-set-other}
@@ -20,10 +20,12 @@ use Rattle.basics.specs.Lists.{Different, every-at}
 use Rattle.splits.specs.Windows.{Inside, windows-inside}
 use Rattle.layout.specs.Placements.{length-windowsOf}
 use Rattle.layout.specs.Numbering.{noWindow}
-use Rattle.layout.specs.Stretches.{forth, back, Stretch, stretch-whole, stretch-fits, stretch-first, stretch-second, stretch-left, stretch-right}
-use Rattle.layout.specs.Rows.{row-inside, row-outside, row-elsewhere}
+use Rattle.layout.specs.Stretches.{Stretch, stretch-whole, stretch-fits}
+use Rattle.layout.specs.Rows.{row-inside, row-outside}
 use Rattle.labelling_laws.specs.Loop.{activated-none, activated-one}
+use Rattle.engine.specs.declared.labelling.Half.{Half}
 use Rattle.engine.specs.Labelling.Insertions.{insertedIn, inserted-set}
+use Rattle.engine.specs.Labelling.Halves.{halfOf, Halved, halved, Misses, Level, level}
 
 -- block j of the piece whose first block is `first`
 abbrev pub blockIn : ℕ → List BlockState → ℕ → BlockState
@@ -73,111 +75,72 @@ module _ (q : Piece) (first v i l : ℕ) (ss : List BlockState) (h : Stands q fi
   window-inside j r = every-at (Inside m) (windowsOf m) (windows-inside m (h .small)) j noWindow (omega (arith, length-windowsOf m (h .small)))
 
   -- the block at a window of the piece: its row where i is one of the rows, else none
-  has-row : (j : ℕ) (w : Window) → window j ≡ w → j < 2 * pred m → w .row0 ≤ i → i < w .row0 + w .rows → placeOf v 0 (blockIn first ss j .block .rows) ≡ some (i - w .row0)
-  has-row j w e r a b =
-      let x : w .row0 + w .rows ≤ m = rw (← e) (window-inside j r .rows-in) in
-      rw (h .blocks-are j r, e) (row-inside q w x (h .apart) v i (h .inside) (h .here) a b)
+  has-row : (j : ℕ) → j < 2 * pred m → window j .row0 ≤ i → i < window j .row0 + window j .rows → placeOf v 0 (blockIn first ss j .block .rows) ≡ some (i - window j .row0)
+  has-row j r a b = rw (h .blocks-are j r) (row-inside q (window j) (window-inside j r .rows-in) (h .apart) v i (h .inside) (h .here) a b)
 
-  no-row : (j : ℕ) (w : Window) → window j ≡ w → j < 2 * pred m → (i < w .row0) ⊎ (w .row0 + w .rows ≤ i) → placeOf v 0 (blockIn first ss j .block .rows) ≡ none
-  no-row j w e r o =
-      let x : w .row0 + w .rows ≤ m = rw (← e) (window-inside j r .rows-in) in
-      rw (h .blocks-are j r, e) (row-outside q w x (h .apart) v i (h .inside) (h .here) o)
+  no-row : (j : ℕ) → j < 2 * pred m → Misses (window j) i → placeOf v 0 (blockIn first ss j .block .rows) ≡ none
+  no-row j r o = rw (h .blocks-are j r) (row-outside q (window j) (window-inside j r .rows-in) (h .apart) v i (h .inside) (h .here) o)
 
   module _ (s start k : ℕ) (ss′ : List BlockState) (n : ℕ) (d : Descended q first v i l ss s start k ss′ n) where
     few : s + 2 * pred k ≤ 2 * pred m
     few = omega (arith, stretch-fits (windowsOf m) s start k (d .stretch), length-windowsOf m (h .small))
 
-    -- block g of the stretch has v as row r, and the others outside a smaller stretch do not have it
-    turn : (g r s′ start′ k′ : ℕ) (more : ℕ) → s ≤ g → g < s′ → s′ + 2 * pred k′ ≤ s + 2 * pred k
-        → Stretch (windowsOf m) s′ start′ k′ → start′ ≤ i → i < start′ + k′
-        → placeOf v 0 (blockIn first ss g .block .rows) ≡ some r
-        → ((j : ℕ) → s ≤ j → j < s + 2 * pred k → j ≢ g → (j < s′) ⊎ (s′ + 2 * pred k′ ≤ j) → placeOf v 0 (blockIn first ss j .block .rows) ≡ none)
-        → g < s + 2 * pred k
-        → apply (blockIn first ss′ g) (activation r l) .trace .inserted ≡ blockIn first ss′ g .trace .inserted + more
-        → Descended q first v i l ss s′ start′ k′ (set ss′ (first + g) (apply (blockIn first ss′ g) (activation r l))) (n + more)
-    turn g r s′ start′ k′ more a b e stretch low high row elsewhere c grown = record {
-      stretch = stretch;
-      low = low;
-      high = high;
-      long = length-set ss′ (first + g) new ∙ d .long;
-      others = λ x o. getD-set-other ss′ (first + g) x new noBlockState (apart x o) ∙ d .others x o;
-      done = λ j x o. changed j x o (equality j g);
-      still = λ j x y. getD-set-other ss′ (first + g) (first + j) new noBlockState (omega arith) ∙ d .still j (omega arith) (omega arith);
-      counted = inserted-set ss′ (first + g) new more room grown ∙ omega (arith, d .counted);
-    }
-      where
-        new : BlockState
-        new = apply (blockIn first ss′ g) (activation r l)
+    -- the half that has the place: the block with its places as rows has v as a row, the others outside the half do not
+    module _ (two : 2 ≤ k) (half : Half) (e : half ≡ halfOf s start k i) where
+      abbrev g : ℕ
+      g = half .own
 
-        room : first + g < length ss′
-        room = omega (arith, d .long, h .fits, few)
+      abbrev r : ℕ
+      r = i - half .start
 
-        apart : (x : ℕ) → (x < first) ⊎ (first + 2 * pred m ≤ x) → x ≢ first + g
-        apart x (inl o) = omega arith
-        apart x (inr o) = omega (arith, few)
+      in-half : Halved s start k i half
+      in-half = halved s start k i (d .low) (d .high) two half e
 
-        old : (j : ℕ) → s ≤ j → j < s + 2 * pred k → (j < s′) ⊎ (s′ + 2 * pred k′ ≤ j) → j ≢ g → blockIn first ss′ j ≡ activateVertex v l (blockIn first ss j)
-        old j x y o z = d .still j x y ∙ sym (activated-none v l (blockIn first ss j) (elsewhere j x y z o))
+      here : Level (windowsOf m) s k i half
+      here = level (windowsOf m) s start k (d .stretch) two i half e
 
-        changed : (j : ℕ) → j < 2 * pred m → (j < s′) ⊎ (s′ + 2 * pred k′ ≤ j) → Equal j g
-            → getD (set ss′ (first + g) new) (first + j) noBlockState ≡ activateVertex v l (blockIn first ss j)
-        changed j x o (equal t z) =
-            rw (z, getD-set-same ss′ (first + g) new noBlockState room, d .still g a c) (sym (activated-one v l (blockIn first ss g) r row))
-        changed j x o (differ t z) =
-            getD-set-other ss′ (first + g) (first + j) new noBlockState (omega arith)
-            ∙ ⊎-elim
-            (λ (y : j < s). d .done j x (inl y))
-            (λ (y : s ≤ j). ⊎-elim (λ (u : j < s + 2 * pred k). old j y u o z) (λ (u : s + 2 * pred k ≤ j). d .done j x (inr u)) (split-at j (s + 2 * pred k)))
-            (split-at j s)
+      pub own-row : placeOf v 0 (blockIn first ss g .block .rows) ≡ some r
+      own-row =
+          rw (here .row0-is) at (has-row g (omega (arith, in-half .after, in-half .upTo, few)) (omega (arith, here .row0-is, in-half .low)) (omega (arith, here .row0-is, here .rows-is, in-half .high)))
 
-    module _ (two : 2 ≤ k) where
-      pub first-row : i < start + k / 2 → placeOf v 0 (blockIn first ss s .block .rows) ≡ some (i - start)
-      first-row r = has-row s (forth start k) (stretch-first (windowsOf m) s start k (d .stretch) two) (omega (arith, few)) (d .low) r
+      abbrev new : BlockState
+      new = apply (blockIn first ss′ g) (activation r l)
 
-      pub second-row : start + k / 2 ≤ i → placeOf v 0 (blockIn first ss (s + 1) .block .rows) ≡ some (i - (start + k / 2))
-      second-row r = has-row (s + 1) (back start k) (stretch-second (windowsOf m) s start k (d .stretch) two) (omega (arith, few)) r (omega (arith, d .high))
+      room : first + g < length ss′
+      room = omega (arith, d .long, h .fits, few, in-half .after, in-half .upTo)
 
-      -- i lies in the first half of the stretch
-      pub descent-first : (more : ℕ) → i < start + k / 2
-          → apply (blockIn first ss′ s) (activation (i - start) l) .trace .inserted ≡ blockIn first ss′ s .trace .inserted + more
-          → Descended q first v i l ss (s + 2) start (k / 2) (set ss′ (first + s) (apply (blockIn first ss′ s) (activation (i - start) l))) (n + more)
-      descent-first more r grown =
-          turn s (i - start) (s + 2) start (k / 2) more (omega arith) (omega arith) (omega arith) (stretch-left (windowsOf m) s start k (d .stretch) two) (d .low) r (first-row r) elsewhere (omega arith) grown
-        where
-          other : (j : ℕ) → s + 2 * (k / 2) ≤ j → j < s + 2 * pred k → placeOf v 0 (blockIn first ss j .block .rows) ≡ none
-          other j a b =
-              let e : s + 2 * (k / 2) + (j - (s + 2 * (k / 2))) ≡ j = omega arith in
-              rw (h .blocks-are j (omega (arith, few)))
-              (rw e at (row-elsewhere q (s + 2 * (k / 2)) (start + k / 2) (k - k / 2) (h .small) (stretch-right (windowsOf m) s start k (d .stretch) two) (h .apart) v i (h .inside) (h .here)
-              (inl r) (j - (s + 2 * (k / 2))) (omega arith)))
+      apart : (x : ℕ) → (x < first) ⊎ (first + 2 * pred m ≤ x) → x ≢ first + g
+      apart x (inl o) = omega (arith, in-half .from)
+      apart x (inr o) = omega (arith, few, in-half .after, in-half .upTo)
 
-          elsewhere : (j : ℕ) → s ≤ j → j < s + 2 * pred k → j ≢ s → (j < s + 2) ⊎ (s + 2 + 2 * pred (k / 2) ≤ j) → placeOf v 0 (blockIn first ss j .block .rows) ≡ none
-          elsewhere j a b z (inl o) =
-              let e : j ≡ s + 1 = omega arith in
-              no-row j (back start k) (rw e (stretch-second (windowsOf m) s start k (d .stretch) two)) (omega (arith, few)) (inl r)
-          elsewhere j a b z (inr o) = other j (omega arith) b
+      old : (j : ℕ) → s ≤ j → j < s + 2 * pred k → (j < half .windows) ⊎ (half .windows + 2 * pred (half .size) ≤ j) → j ≢ g → blockIn first ss′ j ≡ activateVertex v l (blockIn first ss j)
+      old j x y o z = d .still j x y ∙ sym (activated-none v l (blockIn first ss j) (no-row j (omega (arith, few)) (here .others j x y z o)))
 
-      pub descent-second : (more : ℕ) → start + k / 2 ≤ i
-          → apply (blockIn first ss′ (s + 1)) (activation (i - (start + k / 2)) l) .trace .inserted ≡ blockIn first ss′ (s + 1) .trace .inserted + more
-          → Descended q first v i l ss (s + 2 * (k / 2)) (start + k / 2) (k - k / 2)
-          (set ss′ (first + (s + 1)) (apply (blockIn first ss′ (s + 1)) (activation (i - (start + k / 2)) l))) (n + more)
-      descent-second more r grown =
-          turn (s + 1) (i - (start + k / 2)) (s + 2 * (k / 2)) (start + k / 2) (k - k / 2) more (omega arith) (omega arith) (omega arith)
-          (stretch-right (windowsOf m) s start k (d .stretch) two) r (omega (arith, d .high)) (second-row r) elsewhere (omega arith) grown
-        where
-          elsewhere : (j : ℕ) → s ≤ j → j < s + 2 * pred k → j ≢ s + 1 → (j < s + 2 * (k / 2)) ⊎ (s + 2 * (k / 2) + 2 * pred (k - k / 2) ≤ j)
-              → placeOf v 0 (blockIn first ss j .block .rows) ≡ none
-          elsewhere j a b z (inl o) = ⊎-elim
-              (λ (x : j < s + 1).
-              let e : j ≡ s = omega arith in
-              no-row j (forth start k) (rw e (stretch-first (windowsOf m) s start k (d .stretch) two)) (omega (arith, few)) (inr r))
-              (λ (x : s + 1 ≤ j).
-              let e : s + 2 + (j - (s + 2)) ≡ j = omega arith in
-              rw (h .blocks-are j (omega (arith, few)))
-              (rw e at (row-elsewhere q (s + 2) start (k / 2) (h .small) (stretch-left (windowsOf m) s start k (d .stretch) two) (h .apart) v i (h .inside) (h .here)
-              (inr r) (j - (s + 2)) (omega arith))))
-              (split-at j (s + 1))
-          elsewhere j a b z (inr o) = absurd (omega arith)
+      changed : (j : ℕ) → j < 2 * pred m → (j < half .windows) ⊎ (half .windows + 2 * pred (half .size) ≤ j) → Equal j g
+          → getD (set ss′ (first + g) new) (first + j) noBlockState ≡ activateVertex v l (blockIn first ss j)
+      changed j x o (equal t z) =
+          rw (z, getD-set-same ss′ (first + g) new noBlockState room, d .still g (in-half .from) (omega (arith, in-half .after, in-half .upTo)))
+          (sym (activated-one v l (blockIn first ss g) r own-row))
+      changed j x o (differ t z) =
+          getD-set-other ss′ (first + g) (first + j) new noBlockState (omega arith)
+          ∙ ⊎-elim
+          (λ (y : j < s). d .done j x (inl y))
+          (λ (y : s ≤ j). ⊎-elim (λ (u : j < s + 2 * pred k). old j y u o z) (λ (u : s + 2 * pred k ≤ j). d .done j x (inr u)) (split-at j (s + 2 * pred k)))
+          (split-at j s)
+
+      pub descent-half : (more : ℕ) → new .trace .inserted ≡ blockIn first ss′ g .trace .inserted + more
+          → Descended q first v i l ss (half .windows) (half .start) (half .size) (set ss′ (first + g) new) (n + more)
+      descent-half more grown = record {
+        stretch = here .stretch;
+        low = in-half .low;
+        high = in-half .high;
+        long = length-set ss′ (first + g) new ∙ d .long;
+        others = λ x o. getD-set-other ss′ (first + g) x new noBlockState (apart x o) ∙ d .others x o;
+        done = λ j x o. changed j x o (equality j g);
+        still = λ j x y. getD-set-other ss′ (first + g) (first + j) new noBlockState (omega (arith, in-half .after))
+            ∙ d .still j (omega (arith, in-half .from, in-half .after)) (omega (arith, in-half .upTo));
+        counted = inserted-set ss′ (first + g) new more room grown ∙ omega (arith, d .counted);
+      }
 
     -- a single place has no block: all blocks of the piece are done
     pub descent-done : k ≤ 1 → (j : ℕ) → j < 2 * pred m → blockIn first ss′ j ≡ activateVertex v l (blockIn first ss j)

@@ -1,8 +1,10 @@
 -- The loop of the labelling: after k extractions the arrays hold the definition's state after k steps.
+--   startedWith countedWith       what is counted
 --   Begun CanLabel label-..       fresh heaps and a blank buffer; the source is settled
 --   Settling Stepping             what settling a vertex and a step promise
 --   Going                         after k steps, for given pieces: a vertex that is extracted is settled already, or it is settled now
---   Labelled Started CanFinish Runs runs-..    the same for any pieces whose arrays these are: the loop's invariant
+--   Labelled Underway CanAdvance Advanced step-..    the same for any pieces whose arrays these are
+--   Runs runs-..                  the loop's invariant
 use mathlib.Core.Path.{_≡_, refl, sym, ap, _∙_}
 use mathlib.Core.List.{List, [], _∷_, _++_, map}
 use mathlib.Core.Logic.{_≢_}
@@ -23,6 +25,8 @@ use Rattle.labelling_laws.specs.OneBlock.{Fit}
 use Rattle.labelling_laws.specs.Steps.{blockAt, Setting}
 use Rattle.labelling_laws.specs.Loop.{start-is, advance-old, advance-new, least-in, labels-length, labels-none, labels-set, read-unsettled, read-settled}
 use Rattle.labelling_laws.specs.Ends.{start-extracts, step-extracts, goes, finished, reached-few, labels-short, extractions-bound, insertions-bound, welcome-start, welcome-step}
+use Rattle.engine.specs.declared.labelling.Progress.{Progress}
+use Rattle.engine.specs.declared.labelling.Progress.the-variants as progress
 use Rattle.engine.specs.declared.labelling.Step.{Step}
 use Rattle.engine.specs.declared.labelling.Step.the-variants as step
 use Rattle.engine.specs.Labelling.State.{Parted, Running, callAt}
@@ -32,11 +36,21 @@ use Rattle.engine.specs.Labelling.Insertions.{insertedIn, inserted-set, 
 use Rattle.engine.specs.Labelling.Mapped.{Mapped}
 use Rattle.engine.specs.Labelling.Activations.{call-few}
 use Rattle.engine.specs.Labelling.Vertices.{Given, CanSettle, Settles}
-use Rattle.engine.specs.Labelling.Extractions.{Columned, chosenOf, Taken, Stepped}
+use Rattle.engine.specs.Labelling.Extractions.{Columned, chosenOf, Extracted, Stepped}
+
+-- ---- what is counted
+
+-- when the source is settled
+abbrev pub startedWith : ℕ → LabelAnswer
+startedWith inserted = record { number = 0; reached = 1; extracted = 0; inserted = inserted }
+
+-- after one extraction more
+abbrev pub countedWith : LabelAnswer → ℕ → ℕ → LabelAnswer
+countedWith a vertices inserted = record { number = a .number; reached = a .reached + vertices; extracted = a .extracted + 1; inserted = a .inserted + inserted }
 
 -- the arrays are those of these pieces and hold fresh blocks, the labelling of these blocks is set, and the label buffer is blank
-pub record Begun (matrix : List (List ℕ)) (parts places firsts sizes vertices values heaps words buffer : List ℕ) (p source n : ℕ) (qs : List Piece) : Type 0 where
-  pub mapped : Mapped p parts places firsts sizes vertices qs
+pub record Begun (matrix : List (List ℕ)) (parts places firsts sizes vertices values heaps words buffer : List ℕ) (source n : ℕ) (qs : List Piece) : Type 0 where
+  pub mapped : Mapped (length sizes) parts places firsts sizes vertices qs
   pub running : Running matrix parts (blocks qs) heaps values words (map freshBlock (blocks qs))
   pub setting : Setting (blocks qs) n source
   pub blank : buffer ≡ replicate labelPlaces unreached
@@ -77,24 +91,24 @@ module _ (matrix : List (List ℕ)) (parts : List ℕ) (bs : List Block) (parted
 
 -- ---- from the source on
 
-module _ (matrix : List (List ℕ)) (parts places firsts sizes vertices values₀ heaps₀ words₀ buffer₀ : List ℕ) (p source n : ℕ) (qs : List Piece)
-    (begun : Begun matrix parts places firsts sizes vertices values₀ heaps₀ words₀ buffer₀ p source n qs) where
+module _ (matrix : List (List ℕ)) (parts places firsts sizes vertices values₀ heaps₀ words₀ buffer₀ : List ℕ) (source n : ℕ) (qs : List Piece)
+    (begun : Begun matrix parts places firsts sizes vertices values₀ heaps₀ words₀ buffer₀ source n qs) where
   abbrev fresh : List BlockState
   fresh = map freshBlock (blocks qs)
 
   abbrev setting : Setting (blocks qs) n source
   setting = begun .setting
 
-  source-given : Given matrix parts places firsts sizes values₀ heaps₀ words₀ p source 0 vertices qs (fresh)
+  source-given : Given matrix parts places firsts sizes values₀ heaps₀ words₀ (length sizes) source 0 vertices qs (fresh)
   source-given = record { mapped = begun .mapped; running = begun .running; welcome = welcome-start (blocks qs) n source setting }
 
-  source-asked : CanSettle matrix parts places firsts sizes values₀ heaps₀ words₀ p source 0
+  source-asked : CanSettle matrix parts places firsts sizes values₀ heaps₀ words₀ (length sizes) source 0
   source-asked = record { vertices = vertices; pieces = qs; states = fresh; given = source-given }
 
   source-in : (1 ≤ source) × (source ≤ maxVertices)
   source-in = (setting .low, omega (arith, setting .high, setting .small))
 
-  going-begun : (values heaps words : List ℕ) (m : ℕ) → Settling matrix parts places firsts sizes values₀ heaps₀ words₀ values heaps words p source 0 m
+  going-begun : (values heaps words : List ℕ) (m : ℕ) → Settling matrix parts places firsts sizes values₀ heaps₀ words₀ values heaps words (length sizes) source 0 m
       → Going matrix parts values heaps words (set buffer₀ (source - 1) 0) (blocks qs) source 0 1 m
   unfolding steps reached insertions labelOf
   going-begun values heaps words m settles =
@@ -143,7 +157,7 @@ module _ (matrix : List (List ℕ)) (parts places firsts sizes vertices : List �
       unfolding labelAnswer
       stopped = rw (← last) (rw (g .reached-is, g .inserted-is, g .extracted-is) refl, g .shows)
 
-    module _ (heaps′ words′ : List ℕ) (v s m : ℕ) (t : Taken (Running matrix parts bs heaps′ values words′) (st .blocks) v s m) where
+    module _ (heaps′ words′ : List ℕ) (v s m : ℕ) (t : Extracted (Running matrix parts bs heaps′ values words′) (st .blocks) v s m) where
       abbrev i : ℕ
       i = t .block
 
@@ -231,119 +245,161 @@ module _ (matrix : List (List ℕ)) (parts places firsts sizes vertices : List �
               inserted-is = rw e (sym (z .counted ∙ omega (arith, counted)));
             }
 
--- ---- the loop
+-- ---- one step, for any pieces whose arrays these are
 
 -- what is left in the end
 abbrev pub Labelled : List Block → ℕ → LabelAnswer → List ℕ → Type 0
 Labelled bs source r buffer = (r ≡ labelAnswer (labelling bs source)) × (buffer ≡ labels (labelling bs source))
 
--- the source is settled
-pub record Started (matrix : List (List ℕ)) (parts places firsts sizes vertices values heaps words buffer : List ℕ) (p source first n : ℕ) (qs : List Piece) : Type 0 where
-  pub mapped : Mapped p parts places firsts sizes vertices qs
+-- the source is settled, and after some steps the answer so far is a
+pub record Underway (matrix : List (List ℕ)) (parts places firsts sizes vertices values heaps words buffer : List ℕ) (a : LabelAnswer) (source n : ℕ) (qs : List Piece) : Type 0 where
+  pub mapped : Mapped (length sizes) parts places firsts sizes vertices qs
   pub setting : Setting (blocks qs) n source
-  pub going : Going matrix parts values heaps words buffer (blocks qs) source 0 1 first
+  pub accepted : a .number ≡ 0
+  pub going : Going matrix parts values heaps words buffer (blocks qs) source (a .extracted) (a .reached) (a .inserted)
 
-pub record CanFinish (matrix : List (List ℕ)) (parts places firsts sizes vertices values heaps words buffer : List ℕ) (p source first : ℕ) : Type 0 where
+pub record CanAdvance (matrix : List (List ℕ)) (parts places firsts sizes vertices values heaps words buffer : List ℕ) (a : LabelAnswer) : Type 0 where
+  pub source : ℕ
   pub n : ℕ
   pub pieces : List Piece
-  pub started : Started matrix parts places firsts sizes vertices values heaps words buffer p source first n pieces
+  pub underway : Underway matrix parts places firsts sizes vertices values heaps words buffer a source n pieces
+
+-- one extraction more, of at most so many; or the answer so far is the last one
+abbrev pub Advanced : (LabelAnswer → Type 0) → Type 0 → LabelAnswer → Progress → Type 0
+Advanced next ended a (progress.Next b) = next b × (b .extracted ≡ a .extracted + 1) × (a .extracted < 17664)
+Advanced next ended a progress.Ended = ended
+
+module _ (matrix : List (List ℕ)) (parts places firsts sizes vertices values heaps words buffer : List ℕ) (a : LabelAnswer)
+    (can : CanAdvance matrix parts places firsts sizes vertices values heaps words buffer a) where
+  abbrev Now : ℕ → ℕ → List Piece → Type 0
+  Now source n qs = Underway matrix parts places firsts sizes vertices values heaps words buffer a source n qs
+
+  abbrev now : Now (can .source) (can .n) (can .pieces)
+  now = can .underway
+
+  pub step-few : (a .reached ≤ maxVertices) × (a .inserted ≤ 88320) × (length buffer ≡ labelPlaces)
+  step-few = going-few matrix parts places firsts sizes vertices (length sizes) (can .source) (can .n) (can .pieces) (now .mapped) (now .setting) values heaps words buffer _ _ _ (now .going)
+
+  pub step-begins : (bs : List Block) × (ss : List BlockState) × Running matrix parts bs heaps values words ss × Columned parts vertices bs
+  step-begins = step-asked matrix parts places firsts sizes vertices (length sizes) (can .source) (can .n) (can .pieces) (now .mapped) (now .setting) values heaps words buffer _ _ _ (now .going)
+
+  module _ (heaps′ words′ : List ℕ) where
+    pub step-ends : Stepping matrix parts vertices values heaps words heaps′ words′ step.Nothing → (source n : ℕ) (qs : List Piece) → Now source n qs → Labelled (blocks qs) source a buffer
+    step-ends f source n qs u =
+        rw (← u .accepted) at (stopped matrix parts places firsts sizes vertices (length sizes) source n qs (u .mapped) (u .setting) values heaps words buffer _ _ _ (u .going)
+        (f (blocks qs) _ (u .going .running) (columned (u .mapped)) .0))
+
+    module _ (v s m : ℕ) (f : Stepping matrix parts vertices values heaps words heaps′ words′ (step.Vertex v s m)) where
+      extracted : (source n : ℕ) (qs : List Piece) (u : Now source n qs)
+          → Extracted (Running matrix parts (blocks qs) heaps′ values words′) ((steps (a .extracted) (start (blocks qs) source)) .blocks) v s m
+      extracted source n qs u = f (blocks qs) _ (u .going .running) (columned (u .mapped))
+
+      pub step-known : (1 ≤ v) × (v ≤ maxVertices) × (a .extracted < 17664) × (m ≤ 3)
+      step-known = known matrix parts places firsts sizes vertices (length sizes) (can .source) (can .n) (can .pieces) (now .mapped) (now .setting) values heaps words buffer _ _ _
+          (now .going) heaps′ words′ v s m (extracted (can .source) (can .n) (can .pieces) now)
+
+      pub step-old : getD buffer (v - 1) 0 ≢ unreached → (source n : ℕ) (qs : List Piece) → Now source n qs
+          → Underway matrix parts places firsts sizes vertices values heaps′ words′ buffer (countedWith a 0 m) source n qs
+      step-old full source n qs u =
+          let same : a .reached + 0 ≡ a .reached = omega arith in
+          record {
+            mapped = u .mapped;
+            setting = u .setting;
+            accepted = u .accepted;
+            going = rw same (turn-old matrix parts places firsts sizes vertices (length sizes) source n qs (u .mapped) (u .setting) values heaps words buffer _ _ _ (u .going)
+                heaps′ words′ v s m (extracted source n qs u) full);
+          }
+
+      module _ (blank : getD buffer (v - 1) 0 ≡ unreached) where
+        pub step-settles : CanSettle matrix parts places firsts sizes values heaps′ words′ (length sizes) v s
+        step-settles = vertex-asked matrix parts places firsts sizes vertices (length sizes) (can .source) (can .n) (can .pieces) (now .mapped) (now .setting) values heaps words buffer _ _ _
+            (now .going) heaps′ words′ v s m (extracted (can .source) (can .n) (can .pieces) now) blank
+
+        pub step-new : (values″ heaps″ words″ : List ℕ) (m′ : ℕ) → Settling matrix parts places firsts sizes values heaps′ words′ values″ heaps″ words″ (length sizes) v s m′
+            → (source n : ℕ) (qs : List Piece) → Now source n qs
+            → Underway matrix parts places firsts sizes vertices values″ heaps″ words″ (set buffer (v - 1) s) (countedWith a 1 (m + m′)) source n qs
+        step-new values″ heaps″ words″ m′ settles source n qs u =
+            let sum : a .inserted + m + m′ ≡ a .inserted + (m + m′) = omega arith in
+            record {
+              mapped = u .mapped;
+              setting = u .setting;
+              accepted = u .accepted;
+              going = rw sum at (turn-new matrix parts places firsts sizes vertices (length sizes) source n qs (u .mapped) (u .setting) values heaps words buffer _ _ _ (u .going)
+                  heaps′ words′ v s m (extracted source n qs u) blank values″ heaps″ words″ m′ settles);
+            }
+
+-- ---- the loop
 
 -- whatever was started goes on
-pub record Runs (matrix : List (List ℕ)) (parts places firsts sizes vertices values₀ heaps₀ words₀ buffer₀ values heaps words buffer : List ℕ) (p source first k reached-now inserted : ℕ) : Type 0 where
-  pub goes-on : (n : ℕ) (qs : List Piece) → Started matrix parts places firsts sizes vertices values₀ heaps₀ words₀ buffer₀ p source first n qs
-      → Going matrix parts values heaps words buffer (blocks qs) source k reached-now inserted
+pub record Runs (matrix : List (List ℕ)) (parts places firsts sizes vertices values₀ heaps₀ words₀ buffer₀ values heaps words buffer : List ℕ) (a₀ a : LabelAnswer) : Type 0 where
+  pub goes-on : (source n : ℕ) (qs : List Piece) → Underway matrix parts places firsts sizes vertices values₀ heaps₀ words₀ buffer₀ a₀ source n qs
+      → Underway matrix parts places firsts sizes vertices values heaps words buffer a source n qs
 
-module _ (matrix : List (List ℕ)) (parts places firsts sizes vertices values₀ heaps₀ words₀ buffer₀ : List ℕ) (p source first₀ : ℕ)
-    (can : CanFinish matrix parts places firsts sizes vertices values₀ heaps₀ words₀ buffer₀ p source first₀) where
-  pub runs-begun : Runs matrix parts places firsts sizes vertices values₀ heaps₀ words₀ buffer₀ values₀ heaps₀ words₀ buffer₀ p source first₀ 0 1 first₀
-  runs-begun = record { goes-on = λ n qs s. s .going }
+module _ (matrix : List (List ℕ)) (parts places firsts sizes vertices values₀ heaps₀ words₀ buffer₀ : List ℕ) (a₀ : LabelAnswer)
+    (can : CanAdvance matrix parts places firsts sizes vertices values₀ heaps₀ words₀ buffer₀ a₀) where
+  pub runs-begun : Runs matrix parts places firsts sizes vertices values₀ heaps₀ words₀ buffer₀ values₀ heaps₀ words₀ buffer₀ a₀ a₀
+  runs-begun = record { goes-on = λ source n qs u. u }
 
-  module _ (values heaps words buffer : List ℕ) (k reached-now inserted : ℕ)
-      (r : Runs matrix parts places firsts sizes vertices values₀ heaps₀ words₀ buffer₀ values heaps words buffer p source first₀ k reached-now inserted) where
-    abbrev here-going : Going matrix parts values heaps words buffer (blocks (can .pieces)) source k reached-now inserted
-    here-going = r .goes-on (can .n) (can .pieces) (can .started)
+  module _ (values heaps words buffer : List ℕ) (a : LabelAnswer)
+      (r : Runs matrix parts places firsts sizes vertices values₀ heaps₀ words₀ buffer₀ values heaps words buffer a₀ a) where
+    abbrev underway-now : Underway matrix parts places firsts sizes vertices values heaps words buffer a (can .source) (can .n) (can .pieces)
+    underway-now = r .goes-on (can .source) (can .n) (can .pieces) (can .underway)
 
-    pub runs-few : (reached-now ≤ maxVertices) × (inserted ≤ 88320) × (length buffer ≡ labelPlaces)
-    runs-few = going-few matrix parts places firsts sizes vertices p source (can .n) (can .pieces) (can .started .mapped) (can .started .setting) values heaps words buffer k reached-now inserted here-going
-
-    pub runs-asked : (bs : List Block) × (ss : List BlockState) × Running matrix parts bs heaps values words ss × Columned parts vertices bs
-    runs-asked = step-asked matrix parts places firsts sizes vertices p source (can .n) (can .pieces) (can .started .mapped) (can .started .setting) values heaps words buffer k reached-now inserted here-going
+    pub runs-on : CanAdvance matrix parts places firsts sizes vertices values heaps words buffer a
+    runs-on = record { source = can .source; n = can .n; pieces = can .pieces; underway = underway-now }
 
     pub runs-long : (length values ≡ length values₀) × (length heaps ≡ length heaps₀) × (length words ≡ length words₀) × (length buffer ≡ length buffer₀)
     runs-long =
-        let a = here-going in
-        let b = can .started .going in (
-          a .running .held .labels-are ∙ sym (b .running .held .labels-are),
-          a .running .held .words-are ∙ sym (b .running .held .words-are),
-          a .running .played .size ∙ sym (b .running .played .size),
-          ap length (a .shows) ∙ labels-length _ ∙ sym (ap length (b .shows) ∙ labels-length _),
+        let x = underway-now .going in
+        let y = can .underway .going in (
+          x .running .held .labels-are ∙ sym (y .running .held .labels-are),
+          x .running .held .words-are ∙ sym (y .running .held .words-are),
+          x .running .played .size ∙ sym (y .running .played .size),
+          ap length (x .shows) ∙ labels-length _ ∙ sym (ap length (y .shows) ∙ labels-length _),
         )
 
-    module _ (heaps′ words′ : List ℕ) where
-      pub runs-stopped : Stepping matrix parts vertices values heaps words heaps′ words′ step.Nothing
-          → (n : ℕ) (qs : List Piece) → Started matrix parts places firsts sizes vertices values₀ heaps₀ words₀ buffer₀ p source first₀ n qs
-          → Labelled (blocks qs) source (record { number = 0; reached = reached-now; extracted = k; inserted = inserted }) buffer
-      runs-stopped f n qs s =
-          let g = r .goes-on n qs s in
-          stopped matrix parts places firsts sizes vertices p source n qs (s .mapped) (s .setting) values heaps words buffer k reached-now inserted g (f (blocks qs) _ (g .running) (columned (s .mapped)) .0)
+    -- one step, as promised
+    module _ (values′ heaps′ words′ buffer′ : List ℕ) (z : Progress) (f : (source n : ℕ) (qs : List Piece) → Underway matrix parts places firsts sizes vertices values heaps words buffer a source n qs
+        → Advanced (λ b. Underway matrix parts places firsts sizes vertices values′ heaps′ words′ buffer′ b source n qs) (Labelled (blocks qs) source a buffer′) a z) where
+      pub runs-next : (b : LabelAnswer) → z ≡ progress.Next b
+          → Runs matrix parts places firsts sizes vertices values₀ heaps₀ words₀ buffer₀ values′ heaps′ words′ buffer′ a₀ b × (b .extracted ≡ a .extracted + 1) × (a .extracted < 17664)
+      runs-next b e =
+          let g = rw e at f in
+          let x = g (can .source) (can .n) (can .pieces) underway-now in
+          (record { goes-on = λ source n qs u. g source n qs (r .goes-on source n qs u) .0 }, x .1, x .2)
 
-      module _ (v s m : ℕ) (f : Stepping matrix parts vertices values heaps words heaps′ words′ (step.Vertex v s m)) where
-        -- the step, for the pieces that the loop was started with
-        step-taken : (n : ℕ) (qs : List Piece) (b : Started matrix parts places firsts sizes vertices values₀ heaps₀ words₀ buffer₀ p source first₀ n qs)
-            → Taken (Running matrix parts (blocks qs) heaps′ values words′) ((steps k (start (blocks qs) source)) .blocks) v s m
-        step-taken n qs b = f (blocks qs) _ (r .goes-on n qs b .running) (columned (b .mapped))
-
-        pub runs-known : (1 ≤ v) × (v ≤ maxVertices) × (k < 17664) × (m ≤ 3)
-        runs-known = known matrix parts places firsts sizes vertices p source (can .n) (can .pieces) (can .started .mapped) (can .started .setting) values heaps words buffer k reached-now inserted
-            here-going heaps′ words′ v s m (step-taken (can .n) (can .pieces) (can .started))
-
-        pub runs-old : getD buffer (v - 1) 0 ≢ unreached
-            → Runs matrix parts places firsts sizes vertices values₀ heaps₀ words₀ buffer₀ values heaps′ words′ buffer p source first₀ (k + 1) reached-now (inserted + m)
-        runs-old full = record {
-          goes-on = λ n qs b. turn-old matrix parts places firsts sizes vertices p source n qs (b .mapped) (b .setting) values heaps words buffer k reached-now inserted (r .goes-on n qs b)
-              heaps′ words′ v s m (step-taken n qs b) full;
-        }
-
-        module _ (blank : getD buffer (v - 1) 0 ≡ unreached) where
-          pub runs-settle : CanSettle matrix parts places firsts sizes values heaps′ words′ p v s
-          runs-settle = vertex-asked matrix parts places firsts sizes vertices p source (can .n) (can .pieces) (can .started .mapped) (can .started .setting) values heaps words buffer k reached-now inserted
-              here-going heaps′ words′ v s m (step-taken (can .n) (can .pieces) (can .started)) blank
-
-          pub runs-new : (values″ heaps″ words″ : List ℕ) (m′ : ℕ) → Settling matrix parts places firsts sizes values heaps′ words′ values″ heaps″ words″ p v s m′
-              → Runs matrix parts places firsts sizes vertices values₀ heaps₀ words₀ buffer₀ values″ heaps″ words″ (set buffer (v - 1) s) p source first₀ (k + 1) (reached-now + 1) (inserted + m + m′)
-          runs-new values″ heaps″ words″ m′ settles = record {
-            goes-on = λ n qs b. turn-new matrix parts places firsts sizes vertices p source n qs (b .mapped) (b .setting) values heaps words buffer k reached-now inserted (r .goes-on n qs b)
-                heaps′ words′ v s m (step-taken n qs b) blank values″ heaps″ words″ m′ settles;
-          }
+      pub runs-done : z ≡ progress.Ended → (source n : ℕ) (qs : List Piece) → Underway matrix parts places firsts sizes vertices values₀ heaps₀ words₀ buffer₀ a₀ source n qs → Labelled (blocks qs) source a buffer′
+      runs-done e source n qs u = (rw e at f) source n qs (r .goes-on source n qs u)
 
 -- ---- the source, then the loop
 
-pub record CanLabel (matrix : List (List ℕ)) (parts places firsts sizes vertices values heaps words buffer : List ℕ) (p source : ℕ) : Type 0 where
+pub record CanLabel (matrix : List (List ℕ)) (parts places firsts sizes vertices values heaps words buffer : List ℕ) (source : ℕ) : Type 0 where
   pub n : ℕ
   pub pieces : List Piece
-  pub begun : Begun matrix parts places firsts sizes vertices values heaps words buffer p source n pieces
+  pub begun : Begun matrix parts places firsts sizes vertices values heaps words buffer source n pieces
 
-module _ (matrix : List (List ℕ)) (parts places firsts sizes vertices values heaps words buffer : List ℕ) (p source : ℕ)
-    (can : CanLabel matrix parts places firsts sizes vertices values heaps words buffer p source) where
+module _ (matrix : List (List ℕ)) (parts places firsts sizes vertices values heaps words buffer : List ℕ) (source : ℕ)
+    (can : CanLabel matrix parts places firsts sizes vertices values heaps words buffer source) where
   pub label-source : (1 ≤ source) × (source ≤ maxVertices) × (length buffer ≡ labelPlaces)
   label-source =
-      let s = source-in matrix parts places firsts sizes vertices values heaps words buffer p source (can .n) (can .pieces) (can .begun) in
+      let s = source-in matrix parts places firsts sizes vertices values heaps words buffer source (can .n) (can .pieces) (can .begun) in
       (s .0, s .1, ap length (can .begun .blank) ∙ length-replicate {A = ℕ} labelPlaces unreached)
 
-  pub label-asked : CanSettle matrix parts places firsts sizes values heaps words p source 0
-  label-asked = source-asked matrix parts places firsts sizes vertices values heaps words buffer p source (can .n) (can .pieces) (can .begun)
+  pub label-asked : CanSettle matrix parts places firsts sizes values heaps words (length sizes) source 0
+  label-asked = source-asked matrix parts places firsts sizes vertices values heaps words buffer source (can .n) (can .pieces) (can .begun)
 
-  module _ (values′ heaps′ words′ : List ℕ) (m : ℕ) (f : Settling matrix parts places firsts sizes values heaps words values′ heaps′ words′ p source 0 m) where
-    pub label-started : (n : ℕ) (qs : List Piece) → Begun matrix parts places firsts sizes vertices values heaps words buffer p source n qs
-        → Started matrix parts places firsts sizes vertices values′ heaps′ words′ (set buffer (source - 1) 0) p source m n qs
+  module _ (values′ heaps′ words′ : List ℕ) (m : ℕ) (f : Settling matrix parts places firsts sizes values heaps words values′ heaps′ words′ (length sizes) source 0 m) where
+    pub label-started : (n : ℕ) (qs : List Piece) → Begun matrix parts places firsts sizes vertices values heaps words buffer source n qs
+        → Underway matrix parts places firsts sizes vertices values′ heaps′ words′ (set buffer (source - 1) 0) (startedWith m) source n qs
     label-started n qs b = record {
       mapped = b .mapped;
       setting = b .setting;
-      going = going-begun matrix parts places firsts sizes vertices values heaps words buffer p source n qs b values′ heaps′ words′ m f;
+      accepted = refl;
+      going = going-begun matrix parts places firsts sizes vertices values heaps words buffer source n qs b values′ heaps′ words′ m f;
     }
 
-    pub label-finish : CanFinish matrix parts places firsts sizes vertices values′ heaps′ words′ (set buffer (source - 1) 0) p source m
-    label-finish = record { n = can .n; pieces = can .pieces; started = label-started (can .n) (can .pieces) (can .begun) }
+    pub label-steps : CanAdvance matrix parts places firsts sizes vertices values′ heaps′ words′ (set buffer (source - 1) 0) (startedWith m)
+    label-steps = record { source = source; n = can .n; pieces = can .pieces; underway = label-started (can .n) (can .pieces) (can .begun) }
 
     pub label-long : (r : LabelAnswer) (buffer′ : List ℕ) → Labelled (blocks (can .pieces)) source r buffer′ → length buffer′ ≡ length buffer
     label-long r buffer′ x = ap length (x .1) ∙ labels-length _ ∙ sym (label-source .2)

@@ -8,7 +8,7 @@ use Prim.Native.Nat.{ℕ, zero, suc, pred, _+_, _-_, _*_, _≤_, _<_}
 use native.Mathlib.Nat.{le-refl}
 use native.Mathlib.Omega.{arith}
 use lib.ListN.{getD, length, take, length-map}
-use lib.Seq.{take-length}
+use lib.Seq.{take-length, getD-take}
 use Rattle.definitions.specs.Limits.{maxVertices, maxPieces, maxSize, sizePlaces, vertexPlaces, rowPlaces}
 use Rattle.definitions.specs.Network.{Piece, sizeOf, noPiece}
 use Rattle.definitions.specs.Blocks.{windowsOf, Block, noBlock, blockOf, blocks}
@@ -46,7 +46,6 @@ pub record Mapped (p : ℕ) (parts places firsts sizes vertices : List ℕ) (qs 
   pub few : p ≤ maxPieces
   pub places-in : length places ≡ placeCount
   pub firsts-in : length firsts ≡ sizePlaces
-  pub sizes-in : length sizes ≡ sizePlaces
   pub vertices-in : length vertices ≡ vertexPlaces
   pub each : (d : ℕ) → d < p → MappedPiece parts places sizes vertices (blocks qs) (firstOf qs d) d (getD qs d noPiece)
   pub firsts-are : (d : ℕ) → d < p → getD firsts d 0 ≡ firstOf qs d
@@ -99,7 +98,7 @@ module _ (n p : ℕ) (sizes vertices lengths : List ℕ) (source : ℕ) (fits : 
       let e : (maxPieces - suc d) + suc d ≡ maxPieces = omega (arith, fits .pieces-in) in
       omega (arith, rw e at (blocks-rise p sizes (suc d) (maxPieces - suc d)), block-count p sizes vertices lengths fits, length-upTo p sizes maxPieces)
 
-  piece-mapped : (d : ℕ) → d < p → MappedPiece (partsOf p sizes) (placesOf p sizes vertices) sizes vertices (blocks qs) (firstOf qs d) d (getD qs d noPiece)
+  piece-mapped : (d : ℕ) → d < p → MappedPiece (partsOf p sizes) (placesOf p sizes vertices) (take p sizes) vertices (blocks qs) (firstOf qs d) d (getD qs d noPiece)
   unfolding firstOf
   piece-mapped d l =
       let few : d < maxPieces = omega (arith, fits .pieces-in) in
@@ -108,7 +107,7 @@ module _ (n p : ℕ) (sizes vertices lengths : List ℕ) (source : ℕ) (fits : 
       rw first (record {
         small = suited d l .size-high;
         apart = suited d l .vertices-differ;
-        size-is = sym (m ∙ size-is p sizes vertices lengths fits d l);
+        size-is = getD-take p sizes d 0 l ∙ sym (m ∙ size-is p sizes vertices lengths fits d l);
         blocks-in = rw m (blocks-fill d l);
         blocks-are = λ j x. rw m (block-of p sizes vertices lengths fits d j l (rw m at x));
         rows-at = λ j x. rw m (row-at p sizes d j few (rw m at x));
@@ -117,14 +116,13 @@ module _ (n p : ℕ) (sizes vertices lengths : List ℕ) (source : ℕ) (fits : 
         there = λ v i a b x. let r = found-place p sizes vertices lengths fits d l v a b i x in (rw m (r .0), rw (piece-is d l) (r .1));
       })
 
-  pub mapped : length sizes ≡ sizePlaces → Mapped p (partsOf p sizes) (placesOf p sizes vertices) (firstsOf p sizes) sizes vertices qs
+  pub mapped : Mapped p (partsOf p sizes) (placesOf p sizes vertices) (firstsOf p sizes) (take p sizes) vertices qs
   unfolding firstOf blocksUpTo firstsOf
-  mapped sizes-in = record {
+  mapped = record {
     count = sym pieces-count;
     few = fits .pieces-in;
     places-in = places-long p sizes vertices;
     firsts-in = simp (length-map, length-upFrom);
-    sizes-in = sizes-in;
     vertices-in = fits .vertices-in;
     each = piece-mapped;
     firsts-are = λ d l. firsts-are p sizes d (omega (arith, fits .pieces-in)) ∙ first-is p sizes vertices lengths fits d (omega arith);

@@ -202,8 +202,8 @@ module _ (matrix : List (List ℕ)) (parts places firsts sizes values₀ heaps�
   }
 
   -- how long the arrays are
-  pub arrays-long : (p ≤ maxPieces) × (length places ≡ placeCount) × (length firsts ≡ sizePlaces) × (length sizes ≡ sizePlaces)
-  arrays-long = (map-given .few, map-given .places-in, map-given .firsts-in, map-given .sizes-in)
+  pub arrays-long : (p ≤ maxPieces) × (length places ≡ placeCount) × (length firsts ≡ sizePlaces)
+  arrays-long = (map-given .few, map-given .places-in, map-given .firsts-in)
 
   module _ (values heaps words : List ℕ) (d n : ℕ) (x : Done matrix parts places firsts sizes values₀ heaps₀ words₀ values heaps words p v l d n) where
     abbrev now : Before (Running matrix parts (blocks (can .pieces)) heaps values words) (can .pieces) v l (can .states) d n

@@ -12,6 +12,9 @@ use Rattle.engine.proofs.session.run_session.Tie as tie
 judge-session-requires : tie.Need-judge-session-requires
 judge-session-requires c κs = search needs
 
+refused-session-requires : tie.Need-refused-session-requires
+refused-session-requires c κs = search needs
+
 same-length : tie.Need-same-length
 same-length c = search needs
 
@@ -19,7 +22,7 @@ same-length-2 : tie.Need-same-length-2
 same-length-2 c = search needs
 
 returns : tie.Need-returns
-returns c = session-refused _ _ _ _ _ _ _ _ (c .before .judge-session .ensures) (c .if1 .taken)
+returns c = rw (c .refused-session .ensures) (session-refused _ _ _ _ _ _ _ _ (c .before .before .judge-session .ensures) (c .before .if1 .taken))
 
 load-requires : tie.Need-load-requires
 load-requires c κs = accepted _ _ _ _ _ _ _ _ (c .before .judge-session .ensures) (c .if1 .left) .sizes-fit .lengths-is
@@ -92,6 +95,7 @@ run-session-spec =
     tie.close
     (tie.spec
     judge-session-requires
+    refused-session-requires
     same-length
     same-length-2
     returns
