@@ -2,7 +2,7 @@
 ghost use mathlib.Core.Path.{_≡_};
 ghost use mathlib.Core.List.{[], _∷_, flatMap};
 ghost use Prim.Native.Nat.{ℕ, _+_, _*_, _≤_, _<_};
-ghost use lib.ListN.{length, replicate};
+ghost use lib.ListN.{length};
 ghost use lib.Seq.{sets};
 ghost use Rattle.definitions.specs.Limits.{maxSide};
 ghost use Rattle.definitions.specs.Lists.{within, padded};
@@ -40,27 +40,27 @@ impl Session {
 
     const INTERVAL_PLACES: usize = 72;
 
-    // what stands where there is no interval
+    // What stands where there is no interval.
     const UNUSED: u32 = 255;
 
     const DONE: u32 = 0;
 
-    // kind not 1 or 2, or row out of range
+    // The kind is not 1 or 2, or the row is out of range.
     const CALL_FAULT: u32 = 9;
 
-    // row already activated
+    // The row is already activated.
     const ROW_AGAIN: u32 = 10;
 
-    // label above the limit or below the floor
+    // The label is above the limit or below the floor.
     const LABEL_BOUNDS: u32 = 11;
 
-    // no interval is left
+    // No interval is left.
     const NOTHING: u32 = 50;
 }
 
 // ---- the rectangle
 
-// row i of the lent lengths
+// Row i of the lent lengths.
 fn grid_row(lengths: &[u32], i: usize) -> [u32; Network::ROW_PLACES]
     requires { ⌜ (i < 24) × (length (now lengths) ≡ 576) ⌝ }
     ensures { λ r. ⌜ r ≡ gridRow (now (lengths .entry)) i ⌝ }
@@ -74,7 +74,7 @@ fn grid_row(lengths: &[u32], i: usize) -> [u32; Network::ROW_PLACES]
     row
 }
 
-// the lent lengths as rows
+// The lent lengths as rows.
 fn load(lengths: &[u32]) -> [[u32; Network::ROW_PLACES]; Network::ROW_PLACES]
     requires { ⌜ length (now lengths) ≡ 576 ⌝ }
     ensures { λ r. ⌜ r ≡ grid (now (lengths .entry)) ⌝ }
@@ -91,7 +91,7 @@ fn load(lengths: &[u32]) -> [[u32; Network::ROW_PLACES]; Network::ROW_PLACES]
 
 // ---- the judgement
 
-// whether each lent buffer has its size
+// Whether each lent buffer has its size.
 fn sizes_fit(lengths: usize, calls: usize, answers: usize, intervals: usize) -> bool
     ensures { λ r. ⌜ r ≡ sizesFit lengths calls answers intervals ⌝ }
 {
@@ -107,14 +107,14 @@ fn sizes_fit(lengths: usize, calls: usize, answers: usize, intervals: usize) -> 
     intervals == Session::INTERVAL_PLACES
 }
 
-// whether x rows or columns are within bounds
+// Whether x rows or columns are within bounds.
 fn side_fits(x: u32) -> bool
     ensures { λ r. ⌜ r ≡ within maxSide x ⌝ }
 {
     1 <= x && x <= Session::MAX_SIDE
 }
 
-// whether rows, columns and the number of calls are
+// Whether the rows, the columns and the number of calls are within bounds.
 fn sides_fit(rows: u32, cols: u32, count: u32) -> bool
     ensures { λ r. ⌜ r ≡ sidesFit rows cols count ⌝ }
 {
@@ -127,7 +127,7 @@ fn sides_fit(rows: u32, cols: u32, count: u32) -> bool
     count <= Session::MAX_CALLS
 }
 
-// whether the used lengths of row i are within the limit
+// Whether the used lengths of row i are within the limit.
 fn row_fits(lengths: &[u32], i: usize, cols: usize) -> bool
     requires { ⌜ (i < 24) × (cols ≤ 24) × (length (now lengths) ≡ 576) ⌝ }
     ensures { λ r. ⌜ r ≡ rowFits (now (lengths .entry)) cols i ⌝ }
@@ -142,7 +142,7 @@ fn row_fits(lengths: &[u32], i: usize, cols: usize) -> bool
     true
 }
 
-// whether all used lengths are
+// Whether all used lengths are within the limit.
 fn lengths_fit(lengths: &[u32], rows: usize, cols: usize) -> bool
     requires { ⌜ (rows ≤ 24) × (cols ≤ 24) × (length (now lengths) ≡ 576) ⌝ }
     ensures { λ r. ⌜ r ≡ lengthsFit (now (lengths .entry)) rows cols ⌝ }
@@ -157,7 +157,7 @@ fn lengths_fit(lengths: &[u32], rows: usize, cols: usize) -> bool
     true
 }
 
-// 1, 4, 6, 7, or 0 for a session that is accepted; unused places are not read
+// 1, 4, 6 or 7, or 0 for a session that is accepted. Unused places are not read.
 fn judge_session(
     rows: u32,
     cols: u32,
@@ -199,7 +199,7 @@ struct Called {
     removed: u32,
 }
 
-// the answer of a call that changes nothing
+// The answer of a call that changes nothing.
 fn refused(code: u32, floor: u32) -> Called
     ensures { λ r. ⌜ r ≡ refusal code floor ⌝ }
 {
@@ -213,7 +213,7 @@ fn refused(code: u32, floor: u32) -> Called
     }
 }
 
-// 9, 10, 11, or 0 for an activation that is accepted
+// 9, 10 or 11, or 0 for an activation that is accepted.
 fn judge_activation(rows: usize, labels: &[u32], floor: u32, row: u32, label: u32) -> u32
     requires { ⌜ rows ≤ length (now labels) ⌝ }
     ensures { λ r. ⌜ r ≡ judgeActivation rows (now (labels .entry)) floor row label ⌝ }
@@ -312,7 +312,7 @@ fn call(
 
 // ---- the buffers
 
-// the three numbers at place k of a buffer
+// The three numbers at place k of a buffer.
 fn put_three(buffer: &mut [u32], k: usize, x: u32, y: u32, z: u32)
     requires { ⌜ 3 * k + 3 ≤ length (now buffer) ⌝ }
     ensures { λ _. ⌜ now (buffer .exit) ≡ sets (now (buffer .entry)) (3 * k) (x ∷ y ∷ z ∷ []) ⌝ }
@@ -323,7 +323,7 @@ fn put_three(buffer: &mut [u32], k: usize, x: u32, y: u32, z: u32)
     buffer[at + 2] = z;
 }
 
-// the kept intervals from the front of a buffer, and what marks the places behind them as unused
+// The kept intervals from the front of a buffer, and behind them the mark of unused places.
 fn put_intervals(heap: &[u32], buffer: &mut [u32])
     requires { ⌜ (2 + 3 * countOf (now heap) ≤ length (now heap)) × (3 * countOf (now heap) ≤ length (now buffer)) ⌝ }
     ensures { λ _. ⌜ now (buffer .exit) ≡ padded (length (now (buffer .entry))) 255 (flatMap intervalNumbers (kept (now (heap .entry)))) ⌝ }

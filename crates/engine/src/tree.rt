@@ -9,11 +9,11 @@ ghost use Rattle.engine.specs.Tree.Words.{Key, at, Holds, Least, Changed
 pub(crate) struct Tournament;
 
 impl Tournament {
-    // how many blocks have a leaf; block 0 has the word at this place
+    // How many blocks have a leaf; block 0 has the word at this place.
     const BLOCKS: usize = 1024;
-    // how many words the caller lends; the word at 0 is not used
+    // How many words the caller lends; the word at 0 is not used.
     pub(crate) const WORDS: usize = 2048;
-    // the key of a block with no interval; a fresh tournament is this in every word
+    // The key of a block with no interval; a fresh tournament is this in every word.
     pub(crate) const IDLE: u64 = 18446744073709551615;
 }
 

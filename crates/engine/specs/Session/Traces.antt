@@ -6,7 +6,7 @@
 --   callsOf-more                the calls that the lent numbers say
 --   Going going-..              all of it after the first k calls
 --   Ran ran                     what is left after all of them
-use mathlib.Core.Path.{_≡_, refl, sym, ap, _∙_}
+use mathlib.Core.Path.{_≡_, refl, ap, _∙_}
 use mathlib.Core.List.{List, [], _∷_, _++_, map, map-append, flatMap}
 use Prim.Native.Nat.{ℕ, zero, suc, _+_, _*_, _≤_}
 use native.Mathlib.Nat.{zero-add}
@@ -15,20 +15,19 @@ use native.Mathlib.Omega.{arith}
 use lib.ListN.{length, replicate, getD-replicate, length-map}
 use lib.Seq.{sets}
 use Rattle.definitions.specs.Limits.{unreached}
-use Rattle.definitions.specs.Lists.{upFrom, mem}
-use Rattle.definitions.specs.Model.{least, Model, fresh, parent, available, intervals, Call, Answer, Trace, extend, traceFrom, trace}
+use Rattle.definitions.specs.Lists.{upFrom}
+use Rattle.definitions.specs.Model.{Model, fresh, available, intervals, Call, Answer, Trace, extend, traceFrom, trace}
 use Rattle.definitions.specs.Entries.{callAt, callsOf}
 use Rattle.basics.specs.Buffers.{flatMap-snoc}
 use Rattle.heap_laws.specs.Calls.{trace-snoc}
 use Rattle.heap_laws.specs.Counting.{Distinct, runs-distinct}
-use Rattle.heap_laws.specs.Runs.{runs-none}
-use Rattle.heap_laws.specs.Sound.{fresh-sound, activated-few, extracted-few}
+use Rattle.heap_laws.specs.Sound.{activated-few, extracted-few}
 use Rattle.heap_laws.specs.Traces.{trace-balance, trace-few}
 use Rattle.basics.specs.Sequences.{length-upFrom}
 use Rattle.engine.specs.declared.session.Called.{Called}
-use Rattle.engine.specs.Heap.Words.{countOf, markOf, span, kept}
+use Rattle.engine.specs.Heap.Words.{countOf, markOf, kept}
 use Rattle.engine.specs.Heap.Search.{entry}
-use Rattle.engine.specs.Heap.Holds.{Checked, mark, Holds}
+use Rattle.engine.specs.Heap.Holds.{Checked, Holds, fresh-held}
 use Rattle.engine.specs.Session.Threes.{Front, front-none, front-next}
 use Rattle.engine.specs.Session.Calls.{Keeps, Steps, stepOf}
 
@@ -44,22 +43,10 @@ pub record Fresh (rows : List (List ℕ)) (cols : ℕ) (heap labels : List ℕ) 
   pub heap-is : heap ≡ replicate 74 0
   pub labels-is : labels ≡ replicate 24 unreached
 
-fresh-none : (rows : List (List ℕ)) (cols : ℕ) → intervals (entry rows 0) cols fresh ≡ []
-unfolding intervals available parent least mem
-fresh-none rows cols = runs-none (available (entry rows 0) fresh) 0 cols (λ k _ _. refl)
-
 pub fresh-keeps : (rows : List (List ℕ)) (cols : ℕ) (heap labels : List ℕ) → Fresh rows cols heap labels → Keeps rows cols heap labels 0 fresh
-unfolding kept span countOf markOf mark
+unfolding countOf markOf
 fresh-keeps rows cols heap labels f = rw (f .heap-is, f .labels-is) (record {
-  held = record {
-    checked = f .checked;
-    long = omega (arith, f .checked .inside);
-    labelled = omega (arith, f .checked .few);
-    listed = sym (fresh-none rows cols);
-    marked = refl;
-    labels-at = tt;
-    sound = fresh-sound (entry rows 0) (length rows) cols;
-  };
+  held = fresh-held (replicate 74 0) rows 0 cols (replicate 24 unreached) (f .checked) (omega (arith, f .checked .inside)) (omega (arith, f .checked .few)) refl refl;
   unlabelled = λ r l _. getD-replicate 24 r unreached 0 (omega (arith, f .checked .few));
   floor-is = refl;
 })
