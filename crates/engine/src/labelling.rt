@@ -31,7 +31,8 @@ use layout::Prepared;
 
 // ---- a vertex is activated
 
-// A half of a stretch: its first place, how many places it has, the number of its first window, and that of the window with its places as rows.
+// A half of a stretch: its first place, how many places it has, the number of its first window, and that of the window that has its
+// places as rows.
 struct Half {
     start: usize,
     size: usize,
@@ -94,8 +95,8 @@ fn activate_place(
     inserted
 }
 
-// Vertex v is settled with the label l: in each piece that has it, by the sizes as many as there are, the label is stored at its place, and the place is activated. Returns
-// how many intervals are inserted.
+// Vertex v is settled with the label l: in each piece that has it the label is stored at its place, and the place is activated. There are
+// as many pieces as sizes. Returns how many intervals are inserted.
 fn settle(
     heaps: &mut [u32],
     tree: &mut [u64],

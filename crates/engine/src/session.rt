@@ -7,7 +7,8 @@ ghost use lib.Seq.{sets};
 ghost use Rattle.definitions.specs.Limits.{maxSide};
 ghost use Rattle.definitions.specs.Lists.{within, padded};
 ghost use Rattle.definitions.specs.Model.{Model, Call};
-ghost use Rattle.definitions.specs.Entries.{judgeSession, intervalNumbers, callsOf, sessionRefusal, session};
+ghost use Rattle.definitions.specs.Entries.{judgeSession, intervalNumbers, callAt, callsOf, sessionRefusal, session};
+ghost use Rattle.engine.specs.Promises.{Kept};
 ghost use Rattle.engine.specs.Heap.Words.{countOf, kept};
 ghost use Rattle.engine.specs.Session.Grid.{gridRow, grid};
 ghost use Rattle.engine.specs.Session.Judged.{sizesFit, sidesFit, rowFits, lengthsFit};
@@ -345,6 +346,37 @@ fn put_intervals(heap: &[u32], buffer: &mut [u32])
 
 // ---- all calls
 
+// Call k of the lent ones is made, and its answer is written at place k.
+fn call_at(
+    rows: &[[u32; Network::ROW_PLACES]],
+    cols: usize,
+    heap: &mut [u32],
+    labels: &mut [u32],
+    floor: u32,
+    calls: &[u32],
+    k: usize,
+    answers: &mut [u32],
+) -> Called
+    requires kept { ⌜ ((m : Model) × Keeps (now rows) cols (now heap) (now labels) floor m) ⌝ }
+    requires room { ⌜ (3 * k + 3 ≤ length (now calls)) × (3 * k + 3 ≤ length (now answers)) ⌝ }
+    ensures stepped { λ r. ⌜ ((m : Model) → Keeps (now (rows .entry)) cols (now (heap .entry)) (now (labels .entry)) floor m → Steps (now (rows .entry)) cols m (callAt (now (calls .entry)) k) (now (heap .exit)) (now (labels .exit)) r) ⌝ }
+    ensures written { λ r. ⌜ now (answers .exit) ≡ sets (now (answers .entry)) (3 * k) (r .code ∷ r .column ∷ r .total ∷ []) ⌝ }
+{
+    let at = 3 * k;
+    let called = call(
+        rows,
+        cols,
+        heap,
+        labels,
+        floor,
+        calls[at],
+        calls[at + 1],
+        calls[at + 2],
+    );
+    put_three(answers, k, called.code, called.column, called.total);
+    called
+}
+
 // Any number of calls, three numbers each, on a fresh heap. The counts stay small however many calls there are: at most three intervals are
 // inserted for each row and two for each column.
 fn run_calls(
@@ -364,18 +396,7 @@ fn run_calls(
     let mut removed = 0;
     let mut k = 0;
     while k < count {
-        let at = 3 * k;
-        let called = call(
-            rows,
-            cols,
-            heap,
-            labels,
-            floor,
-            calls[at],
-            calls[at + 1],
-            calls[at + 2],
-        );
-        put_three(answers, k, called.code, called.column, called.total);
+        let called = call_at(rows, cols, heap, labels, floor, calls, k, answers);
         floor = called.floor;
         inserted += called.inserted;
         removed += called.removed;
@@ -405,7 +426,8 @@ pub fn run_session(
     answers: &mut [u32],
     intervals: &mut [u32],
 ) -> SessionAnswer
-    ensures { λ r. ⌜ record { answer = r; answers = now (answers .exit); intervals = now (intervals .exit) } ≡ session rows cols count (now (lengths .entry)) (now (calls .entry)) (now (answers .entry)) (now (intervals .entry)) ⌝ }
+    ensures served { λ r. ⌜ record { answer = r; answers = now (answers .exit); intervals = now (intervals .exit) } ≡ session rows cols count (now (lengths .entry)) (now (calls .entry)) (now (answers .entry)) (now (intervals .entry)) ⌝ }
+    ensures kept { λ r. ⌜ (r .number ≡ 0 → Kept rows cols count (now (lengths .entry)) (now (calls .entry)) r (now (intervals .exit))) ⌝ }
 {
     let cause = judge_session(rows, cols, count, lengths, calls, answers, intervals);
     if cause != Cause::NONE {
@@ -428,7 +450,7 @@ pub fn run_session(
     fill(&mut answers[3 * n..], 0);
     put_intervals(&heap, intervals);
     SessionAnswer {
-        number: 0,
+        number: Cause::NONE,
         inserted: change.inserted,
         removed: change.removed,
     }

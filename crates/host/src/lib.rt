@@ -4,7 +4,7 @@ ghost use mathlib.Core.Path.{_≡_};
 ghost use Rattle.definitions.specs.Entries.{reading, labelNetwork, session, writeField};
 ghost use Rattle.answer.specs.Listing.{writeListing};
 ghost use Rattle.checks.specs.Lent.{judgeLent};
-ghost use Rattle.engine.specs.Promises.{Plain};
+ghost use Rattle.engine.specs.Promises.{Kept, Plain};
 ghost use Rattle.host.specs.Entry.{fieldEntry};
 use definitions::Field;
 use definitions::LabelAnswer;
@@ -71,7 +71,8 @@ pub extern "C" fn rabdzhine_run_session(
     answers: &mut [u32],
     intervals: &mut [u32],
 ) -> SessionAnswer
-    ensures { λ r. ⌜ record { answer = r; answers = now (answers .exit); intervals = now (intervals .exit) } ≡ session rows cols count (now (lengths .entry)) (now (calls .entry)) (now (answers .entry)) (now (intervals .entry)) ⌝ }
+    ensures served { λ r. ⌜ record { answer = r; answers = now (answers .exit); intervals = now (intervals .exit) } ≡ session rows cols count (now (lengths .entry)) (now (calls .entry)) (now (answers .entry)) (now (intervals .entry)) ⌝ }
+    ensures kept { λ r. ⌜ (r .number ≡ 0 → Kept rows cols count (now (lengths .entry)) (now (calls .entry)) r (now (intervals .exit))) ⌝ }
 {
     engine::run_session(rows, cols, count, lengths, calls, answers, intervals)
 }
