@@ -23,7 +23,7 @@ use Rattle.heap_laws.specs.Calls.{trace-snoc}
 use Rattle.heap_laws.specs.Counting.{Distinct, runs-distinct}
 use Rattle.heap_laws.specs.Sound.{activated-few, extracted-few}
 use Rattle.heap_laws.specs.Traces.{trace-balance, trace-few}
-use Rattle.basics.specs.Sequences.{length-upFrom}
+use Rattle.basics.specs.Sequences.{length-upFrom, upFrom-snoc}
 use Rattle.engine.specs.declared.session.Called.{Called}
 use Rattle.engine.specs.Heap.Words.{countOf, markOf, kept}
 use Rattle.engine.specs.Heap.Search.{entry}
@@ -98,11 +98,6 @@ unfolding extend
 front-more rows cols ks k u v r s i before now f h =
     rw (trace-snoc (entry rows 0) (length rows) cols ks k, flatMap-snoc answerNumbers (traceOf rows cols ks .answers) (stepOf rows cols (traceOf rows cols ks .model) k .answer), ← s .answer-is)
     (front-next i before (flatMap answerNumbers (traceOf rows cols ks .answers)) now (r .code) (r .column) (r .total) f h)
-
-upFrom-snoc : (s n : ℕ) → upFrom s (suc n) ≡ upFrom s n ++ (s + n) ∷ []
-unfolding upFrom
-upFrom-snoc s zero = let e : s + 0 ≡ s = omega arith in rw e
-upFrom-snoc s (suc n) = let e : s + suc n ≡ suc s + n = omega arith in rw e (ap (λ (l : List ℕ). s ∷ l) (upFrom-snoc (suc s) n))
 
 pub callsOf-more : (calls : List ℕ) (k : ℕ) → callsOf calls (k + 1) ≡ callsOf calls k ++ callAt calls k ∷ []
 unfolding callsOf
