@@ -1,9 +1,9 @@
 -- A buffer that is filled from its front.
---   filled-none filled-more    a loop that stores f 0, f 1, .. from the front
+--   filled-none filled-more        a loop that stores f 0, f 1, .. from the front
 --   flatMap-append flatMap-snoc    the numbers of things and of more of them, of one more
---   drop-replicate  what is left of a filler
---   front-sets      numbers stored behind those that stand at the front
---   front-full      a front followed by a filler is padded
+--   drop-replicate                 what is left of a filler
+--   front-sets                     numbers stored behind those that stand at the front
+--   front-full                     a front followed by a filler is padded
 use mathlib.Core.Path.{_≡_, refl, sym, ap, _∙_}
 use mathlib.Core.List.{List, [], _∷_, _++_, map, flatMap, append-assoc, append-nil}
 use Prim.Native.Nat.{ℕ, zero, suc, _+_, _-_, _≤_, _<_}

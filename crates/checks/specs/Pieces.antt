@@ -1,12 +1,11 @@
 -- Laws of the judgement of a piece.
---   cut Ordered splits-ordered    the places of a split, in order
 --   passesIn blocks-windows       the blocks of a piece pass exactly if the windows of its reversed matrix do
 --   blocks-same table-blocks      they ask for the size and the table only
 --   piece-parts piece-lent        a piece of the lent buffers stands in its own parts of them, and is judged by these
 use mathlib.Core.Path.{_≡_, refl, sym, ap, _∙_}
 use mathlib.Core.Bool.{Bool}
 use mathlib.Core.List.{List, [], _∷_, map}
-use Prim.Native.Nat.{ℕ, zero, suc, _+_, _-_, _*_, _/_, _≤_, _<_}
+use Prim.Native.Nat.{ℕ, zero, suc, _+_, _-_, _*_, _≤_, _<_}
 use native.Mathlib.Omega.{arith}
 use borrow.Author.Tests.{eq-eqb}
 use lib.ListN.{getD, length, take, drop}
@@ -14,52 +13,17 @@ use lib.Seq.{take-take, drop-drop}
 use Rattle.definitions.specs.Limits.{maxSize, rowPlaces, tablePlaces}
 use Rattle.definitions.specs.Lists.{every, upFrom, firstCause}
 use Rattle.definitions.specs.Network.{Piece, entry, sizeOf}
-use Rattle.definitions.specs.Blocks.{Split, splits, splitsOf, Window, windowsOf, rowsOf, columnsOf, isMonge, blockOf, blocksOf, passes}
+use Rattle.definitions.specs.Blocks.{Window, windowsOf, rowsOf, columnsOf, isMonge, blockOf, blocksOf, passes}
 use Rattle.definitions.specs.Judgement.{judgeSize, judgeBlocks, judgePiece, pieceAt}
 use Rattle.definitions.specs.Entries.{hasPlaces}
-use Rattle.basics.specs.Tests.{Order, less, more, order, Equal, equal, differ, equality}
-use Rattle.basics.specs.Lists.{Every, every-append, every-imp}
-use Rattle.splits.specs.declared.Split as code
+use Rattle.basics.specs.Tests.{Equal, equal, differ, equality}
+use Rattle.basics.specs.Lists.{Every}
 use Rattle.splits.specs.Windows.{Inside, windows-inside}
 use Rattle.monge.specs.Matrix.{at, mongeIn, reversed, rowsIn}
 use Rattle.basics.specs.Sequences.{length-upFrom}
 use Rattle.monge.specs.Copies.{block-rows, block-cols, block-passes}
 use Rattle.checks.specs.Lent.{pieceIn, tableIn, judgeTable}
 use Rattle.basics.specs.Causes.{passed, last, size-in}
-
--- ---- splits
-
--- a split that the code has, as the definitions have it
-abbrev pub cut : code.Split → Split
-cut c = record { first = c .first; middle = c .middle; end = c .end }
-
-pub record Ordered (m : ℕ) (c : Split) : Type 0 where
-  pub first-middle : c .first ≤ c .middle
-  pub middle-end : c .middle ≤ c .end
-  pub end-in : c .end ≤ m
-
-wider : (m n : ℕ) → m ≤ n → (c : Split) → Ordered m c → Ordered n c
-wider m n l c h = record { first-middle = h .first-middle; middle-end = h .middle-end; end-in = omega (arith, h .end-in) }
-
-ordered : (fuel s k : ℕ) → Every (Ordered (s + k)) (splits fuel s k)
-unfolding splits
-ordered zero s k = tt
-ordered (suc fuel) s k = go (order k 2) (ordered fuel s (k / 2)) (ordered fuel (s + k / 2) (k - k / 2))
-  where
-    go : Order k 2 → Every (Ordered (s + k / 2)) (splits fuel s (k / 2)) → Every (Ordered (s + k / 2 + (k - k / 2))) (splits fuel (s + k / 2) (k - k / 2))
-        → Every (Ordered (s + k)) (splits (suc fuel) s k)
-    go (less t l) a b = rw (Every, t) tt
-    go (more t l) a b =
-        rw (Every, t) (
-          record { first-middle = omega arith; middle-end = omega arith; end-in = omega arith },
-          every-append (Ordered (s + k)) (splits fuel s (k / 2)) (splits fuel (s + k / 2) (k - k / 2))
-              (every-imp _ _ (splits fuel s (k / 2)) (wider (s + k / 2) (s + k) (omega arith)) a)
-              (every-imp _ _ (splits fuel (s + k / 2) (k - k / 2)) (wider (s + k / 2 + (k - k / 2)) (s + k) (omega arith)) b),
-        )
-
-pub splits-ordered : (m : ℕ) → Every (Ordered m) (splitsOf m)
-unfolding splitsOf
-splits-ordered m = every-imp _ _ (splits m 0 m) (wider (0 + m) m (omega arith)) (ordered m 0 m)
 
 -- ---- blocks
 
