@@ -3,4 +3,6 @@ pub mod Tests
 pub mod Lists
 pub mod Buffers
 pub mod Sequences
+pub mod Places
+pub mod Pieces
 pub mod Causes

@@ -13,15 +13,16 @@ use Prim.Native.Nat.{ℕ, zero, suc, pred, _+_, _-_, _*_, _≤_, _<_}
 use native.Mathlib.Nat.{le-refl}
 use native.Mathlib.Omega.{arith}
 use borrow.Author.Tests.{lt-ltb, le-ltb, le-leb}
-use lib.ListN.{getD, length, take, drop, length-append, length-drop, length-map, List·getD-append}
-use lib.Seq.{length-take-le, getD-append-add}
-use Rattle.definitions.specs.Limits.{maxPieces, maxSize, vertexPlaces, lengthPlaces, rowPlaces}
+use lib.ListN.{getD, length, take, length-append, length-map, List·getD-append}
+use lib.Seq.{getD-append-add}
+use Rattle.definitions.specs.Limits.{maxPieces, maxSize, vertexPlaces, lengthPlaces}
 use Rattle.definitions.specs.Lists.{upFrom}
 use Rattle.definitions.specs.Network.{Piece, sizeOf}
 use Rattle.definitions.specs.Blocks.{splits, splitsOf, Window, windows, windowsOf, Block, blockOf, blocksOf, blocks}
 use Rattle.definitions.specs.Judgement.{pieceAt, piecesOf}
 use Rattle.basics.specs.Tests.{split-at}
 use Rattle.basics.specs.Sequences.{upFrom-snoc, getD-each, map-at}
+use Rattle.basics.specs.Pieces.{piece-size}
 use Rattle.layout.specs.Layout.{sizeAt, Placement, place, piecePlacements, placementsUpTo, placementsOf, blocksUpTo, firstsOf}
 use Rattle.layout.specs.Placements.{size-small, length-windowsOf, length-upTo}
 
@@ -70,10 +71,7 @@ module _ (p : ℕ) (sizes vertices lengths : List ℕ) (fits : Fits p sizes vert
   size-is d l = rw (lt-ltb d p l, le-leb (getD sizes d 0) maxSize (fits .small d l))
 
   pub sizeOf-is : (d : ℕ) → d < p → sizeOf (pieceAt sizes vertices lengths d) ≡ sizeAt p sizes d
-  unfolding sizeOf pieceAt
-  sizeOf-is d l =
-      length-take-le (getD sizes d 0) (drop (rowPlaces * d) vertices) (omega (arith, length-drop (rowPlaces * d) vertices, fits .vertices-in, fits .small d l, fits .pieces-in))
-      ∙ sym (size-is d l)
+  sizeOf-is d l = piece-size sizes vertices lengths d (fits .small d l) (omega (arith, fits .vertices-in, fits .pieces-in)) ∙ sym (size-is d l)
 
   -- ---- blocks by placements
 
