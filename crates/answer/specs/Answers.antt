@@ -30,7 +30,8 @@ use Rattle.text.specs.Back.{pieces-back}
 use Rattle.text.specs.Plans.{planAnswer, After as AfterReading}
 use Rattle.text.specs.Accepted.{Accepted, Sound, plan-accepted, network-accepted}
 use Rattle.answer.specs.Listing.{listingPlaces, AfterListing, writeListing}
-use Rattle.answer.specs.Output.{put, Put}
+use Rattle.basics.specs.Buffers.{put}
+use Rattle.answer.specs.Output.{Put}
 use Rattle.answer.specs.Refusals.{Low, low-text, refusal-digit}
 use Rattle.answer.specs.Lines.{length-line, vertexLines, length-vertices}
 

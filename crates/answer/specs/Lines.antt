@@ -15,9 +15,9 @@ use Rattle.definitions.specs.Lists.{upFrom, firstCause}
 use Rattle.definitions.specs.Text.{lineEnd}
 use Rattle.definitions.specs.Entries.{columnBytes, hasPlaces, nineColumns, judgeWrite, writeField, listingLine}
 use Rattle.fields.specs.Writing.{length-nineColumns}
-use Rattle.basics.specs.Buffers.{flatMap-snoc}
+use Rattle.basics.specs.Buffers.{flatMap-snoc, put, put-nothing}
 use Rattle.answer.specs.Listing.{listingLineBytes}
-use Rattle.answer.specs.Output.{put, Put, put-nothing, put-then}
+use Rattle.answer.specs.Output.{Put, put-then}
 
 length-fields : (xs : List ℕ) → length (flatMap nineColumns xs) ≡ columnBytes * length xs
 unfolding flatMap

@@ -1,29 +1,15 @@
 -- Bytes put into a buffer from a place on.
---   put put-append         what stands in the buffer then; one put behind the other
---   Put put-nothing put-then put-both   what a function that puts bytes leaves, and the place behind them
+--   Put put-then put-both  what a function that puts bytes leaves, and the place behind them
 --   line-turn line-closed  a line copied byte by byte, then its byte 10
 use mathlib.Core.Path.{_≡_, sym, ap, _∙_}
-use mathlib.Core.List.{List, [], _∷_, _++_, append-assoc}
+use mathlib.Core.List.{List, [], _∷_, _++_}
 use Prim.Native.Nat.{ℕ, suc, _+_, _≤_, _<_}
 use native.Mathlib.Numerals.{add-one}
 use native.Mathlib.Omega.{arith}
-use lib.ListN.{getD, length, take, drop, set, length-append, List·getD-append}
-use lib.Seq.{take-at, drop-at, take-all, length-take-le, drop-drop, getD-append-seam, paste, paste-zero, paste-suc}
+use lib.ListN.{getD, length, set, length-append, List·getD-append}
+use lib.Seq.{take-all, getD-append-seam, paste, paste-suc}
 use Rattle.definitions.specs.Text.{lineEnd}
-
-unfoldable pub put : List ℕ → ℕ → List ℕ → List ℕ
-put out at xs = take at out ++ xs ++ drop (at + length xs) out
-
--- one behind the other
-put-append : (out : List ℕ) (at : ℕ) (xs ys : List ℕ) → at ≤ length out → put (put out at xs) (at + length xs) ys ≡ put out at (xs ++ ys)
-unfolding put
-put-append out at xs ys h =
-    let front = take at out ++ xs in
-    let rest = drop (at + length xs) out in
-    let long : length front ≡ at + length xs = length-append (take at out) xs ∙ rw (length-take-le at out h) in
-    let z : at + length xs + length ys ≡ at + length (xs ++ ys) = omega (arith, length-append xs ys) in
-    rw (take-at front rest (at + length xs) long, ← drop-drop (length ys) (at + length xs) (front ++ rest), drop-at front rest (at + length xs) long, drop-drop, z)
-    (simp append-assoc)
+use Rattle.basics.specs.Buffers.{put, put-append}
 
 -- ---- what a function leaves
 
@@ -31,10 +17,6 @@ put-append out at xs ys h =
 pub record Put (out : List ℕ) (at : ℕ) (xs : List ℕ) (next : ℕ) (left : List ℕ) : Type 0 where
   pub behind : next ≡ at + length xs
   pub stands : left ≡ put out at xs
-
-pub put-nothing : (out : List ℕ) (at : ℕ) → put out at [] ≡ out
-unfolding put
-put-nothing out at = sym (paste-zero out at [])
 
 -- what is still to be put behind
 pub put-then : (out : List ℕ) (at : ℕ) (xs ys : List ℕ) (next : ℕ) (left : List ℕ) → Put out at xs next left → at ≤ length out → put left next ys ≡ put out at (xs ++ ys)

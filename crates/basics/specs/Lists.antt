@@ -1,15 +1,17 @@
 -- Laws of lists.
 --   all-at all-is every-is        a computed test gives a fact of each number, of each member
+--   all-same all-next all-fails   tests that agree; one number more; one number that fails
 --   Every Any                     a property of all members, of some member
 --   total-..                      sums
 --   Different counted at-most         different numbers, and how many there are below a bound
 --   padded-..                     a buffer filled from its front
 use mathlib.Core.Path.{_≡_, refl, sym, ap, _∙_}
-use mathlib.Core.Bool.{Bool, true, false, cond, not, _||_, or-assoc, or-false}
+use mathlib.Core.Bool.{Bool, true, false, not, _||_, or-assoc, or-false}
 use mathlib.Core.List.{List, [], _∷_, _++_, map}
 use mathlib.Core.Logic.{_⊎_, inl, inr, ⊎-elim, _≢_}
 use Prim.Native.Nat.{ℕ, zero, suc, _+_, _≤_, _<_}
 use native.Mathlib.Nat.{le-refl, eq-or-lt-of-le}
+use native.Mathlib.Numerals.{add-one}
 use native.Mathlib.Omega.{arith}
 use borrow.Author.Tests.{eq-eqb, ne-eqb, not-true}
 use lib.Dec.{eqb}
@@ -32,6 +34,23 @@ pub all-is : (p : ℕ → Bool) (n : ℕ) → ((i : ℕ) → i < n → p i ≡ t
 unfolding all
 all-is p zero f = refl
 all-is p (suc n) f = and-both (all p n) (p n) (all-is p n (λ i l. f i (omega arith))) (f n (omega arith))
+
+pub all-same : (p q : ℕ → Bool) (n : ℕ) → ((i : ℕ) → i < n → p i ≡ q i) → all p n ≡ all q n
+unfolding all
+all-same p q zero h = refl
+all-same p q (suc n) h = rw (h n (omega arith), all-same p q n (λ i l. h i (omega arith)))
+
+-- one number more
+pub all-next : (p : ℕ → Bool) (n : ℕ) → all p n ≡ true → p n ≡ true → all p (n + 1) ≡ true
+unfolding all
+all-next p n h k = rw (add-one n, h, k)
+
+pub all-fails : (p : ℕ → Bool) (n i : ℕ) → i < n → p i ≡ false → all p n ≡ false
+all-fails p n i l h = go (truth (all p n))
+  where
+    go : Truth (all p n) → all p n ≡ false
+    go (holds t) = absurd (clash (all-at p n t i l) h)
+    go (fails t) = t
 
 -- ---- a property of all members
 

@@ -1,6 +1,7 @@
 -- M6: what an activation does to the intervals.
 --   activate-lost activate-won      a column as it was, or won by the new row
 --   activate-edit                   the columns won are cut out of the intervals and given to the new row
+--   none-kept                       before the first activation there is no interval
 --   activate-none activate-first    nothing won, nothing changed; the first row gets all columns
 --   activate-inserted activate-new  the new interval and the trimmed rests are inserted, at most three
 use mathlib.Core.Path.{_≡_, refl, sym, ap, _∙_}
@@ -102,6 +103,15 @@ module _ (e : Rectangle) (rows cols : ℕ) (m : Model) (sound : Sound e rows col
           lost : (k : ℕ) → k < cols → won e (m .activated) r v k ≡ false
           lost k h = ⊎-elim (λ (a : k < first). wins .before k a) (λ (a : first ≤ k). wins .after k (omega arith) h) (split-at k first)
 
+-- before the first activation there is no interval
+pub none-kept : (e : Rectangle) (cols : ℕ) (m : Model) → m .activated ≡ [] → intervals e cols m ≡ []
+unfolding intervals available parent least
+none-kept e cols m none = runs-none (available e m) 0 cols (λ k _ _. rw none (same (mem k (m .extracted))))
+  where
+    same : (b : Bool) → cond b nobody nobody ≡ nobody
+    same true = refl
+    same false = refl
+
 -- the first row that is activated gets all columns
 pub activate-first : (e : Rectangle) (rows cols : ℕ) (m : Model) → Sound e rows cols m → (r v : ℕ) → m .floor ≤ v → m .activated ≡ [] → 0 < cols
     → intervals e cols (activate m r v) ≡ interval r 0 (pred cols) ∷ []
@@ -115,12 +125,7 @@ activate-first e rows cols m g r v high none some =
       before = λ c h. absurd (omega arith);
       after = λ c h l. absurd (omega arith);
     } in
-    let empty : intervals e cols m ≡ [] = runs-none (available e m) 0 cols (λ k _ _. rw (nobody-yet k) (cond-same (mem k (m .extracted)))) in
-    rw empty at (activate-edit e rows cols m g r v (rw none) high 0 cols all-won some)
-  where
-    cond-same : (b : Bool) → cond b nobody nobody ≡ nobody
-    cond-same true = refl
-    cond-same false = refl
+    rw (none-kept e cols m none) at (activate-edit e rows cols m g r v (rw none) high 0 cols all-won some)
 
 -- at most three intervals are inserted: the new one, and the rests of the intervals at its two ends
 pub activate-new : (e : Rectangle) (rows cols : ℕ) → Monge e rows cols → (m : Model) → Sound e rows cols m

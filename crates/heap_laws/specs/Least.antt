@@ -79,6 +79,7 @@ from-lesser n (by p s) (by p′ s′) h k = go (order s′ s)
     go (less a _) = simp a k
     go (more a _) = simp a h
 
+-- either of the two is enough
 pub upTo-lesser : (n : ℕ) (x y : Best) → UpTo n x → UpTo n (lesser x y)
 unfolding lesser
 upTo-lesser n nobody y h = absurd h
@@ -88,6 +89,16 @@ upTo-lesser n (by p s) (by p′ s′) h = go (order s′ s)
     go : Order s′ s → UpTo n (lesser (by p s) (by p′ s′))
     go (less a l) = simp a (omega arith)
     go (more a l) = simp a h
+
+pub upTo-right : (n : ℕ) (x y : Best) → UpTo n y → UpTo n (lesser x y)
+unfolding lesser
+upTo-right n nobody y h = h
+upTo-right n (by p s) nobody h = absurd h
+upTo-right n (by p s) (by p′ s′) h = go (order s′ s)
+  where
+    go : Order s′ s → UpTo n (lesser (by p s) (by p′ s′))
+    go (less a l) = simp a h
+    go (more a l) = simp a (omega arith)
 
 -- the same, spelled out
 pub from-is : (n p s : ℕ) (x : Best) → From n x → x ≡ by p s → n ≤ s

@@ -12,14 +12,12 @@ use native.Mathlib.Omega.{arith}
 use lib.ListN.{length, length-append}
 use Rattle.definitions.specs.Network.{Rectangle}
 use Rattle.definitions.specs.Blocks.{Monge}
-use Rattle.definitions.specs.Lists.{mem}
-use Rattle.definitions.specs.Model.{Best, nobody, by, least, parent, available, leastFrom, Model, fresh, activate, extract, intervals, countNew, judge, Call, coded, step, Trace, extend, trace}
+use Rattle.definitions.specs.Model.{Best, nobody, by, available, leastFrom, Model, fresh, activate, extract, intervals, countNew, judge, Call, coded, step, Trace, extend, trace}
 use Rattle.heap_laws.specs.Calls.{Cases, activates, extracts, refuses, cases, step-activate, step-extract, step-refused, trace-induction}
 use Rattle.heap_laws.specs.Found.{Found, found-is}
 use Rattle.heap_laws.specs.Sound.{Sound, fresh-sound, extend-sound}
-use Rattle.heap_laws.specs.Runs.{runs-none}
 use Rattle.heap_laws.specs.Counting.{countNew-same, runs-distinct, balance}
-use Rattle.heap_laws.specs.Activate.{activate-new}
+use Rattle.heap_laws.specs.Activate.{none-kept, activate-new}
 use Rattle.heap_laws.specs.Extract.{extract-new}
 
 pub extend-refused : (e : Rectangle) (rows cols : ℕ) (t : Trace) (k : Call) → judge rows (t .model) k ≢ 0
@@ -34,16 +32,12 @@ call-balance : (e : Rectangle) (cols : ℕ) (m m′ : Model)
 unfolding intervals
 call-balance e cols m m′ = balance _ _ (runs-distinct (available e m′) 0 cols) (runs-distinct (available e m) 0 cols)
 
-fresh-none : (e : Rectangle) (cols : ℕ) → intervals e cols fresh ≡ []
-unfolding intervals available parent least mem
-fresh-none e cols = runs-none (available e fresh) 0 cols (λ k _ _. refl)
-
 pub trace-balance : (e : Rectangle) (rows cols : ℕ) (ks : List Call)
     → (trace e rows cols ks) .inserted ≡ (trace e rows cols ks) .removed + length (intervals e cols ((trace e rows cols ks) .model))
 unfolding extend
 trace-balance e rows cols = trace-induction e rows cols (λ t. t .inserted ≡ t .removed + length (intervals e cols (t .model)))
     (λ t k h. omega (arith, call-balance e cols (t .model) ((step e rows cols (t .model) k) .model)))
-    (rw (fresh-none e cols))
+    (rw (none-kept e cols fresh refl))
 
 -- ---- how many are inserted
 

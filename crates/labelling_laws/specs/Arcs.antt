@@ -1,5 +1,4 @@
 -- The blocks of an accepted network fit the labelling, their arcs are the network's, and how many rows and columns they have.
---   rows-length cols-length row-vertex col-vertex entry-at    a block of a piece, by places
 --   blocks-fit                       every block fits
 --   walk-to-blocks walk-to-pieces    a walk over the pieces is one over the blocks, and back
 --   all-rows all-cols rows-cols      at most the weight
@@ -11,47 +10,19 @@ use Prim.Native.Nat.{ℕ, zero, suc, _+_, _-_, _*_, _≤_, _<_}
 use native.Mathlib.Nat.{le-refl}
 use native.Mathlib.Omega.{arith}
 use borrow.Author.Tests.{ne-eqb}
-use lib.ListN.{getD, length, length-map}
+use lib.ListN.{getD, length}
 use Rattle.definitions.specs.Limits.{maxSize}
-use Rattle.definitions.specs.Lists.{mem, total, upFrom, downTo}
-use Rattle.definitions.specs.Network.{Piece, entry, sizeOf, noPiece, ArcIn, Arc, Walk}
-use Rattle.definitions.specs.Blocks.{Window, windowsOf, rowsOf, columnsOf, logarithm, Block, blockOf, blocksOf, blocks, noBlock, passes, weight}
+use Rattle.definitions.specs.Lists.{mem, total, upFrom}
+use Rattle.definitions.specs.Network.{Piece, sizeOf, noPiece, ArcIn, Arc, Walk}
+use Rattle.definitions.specs.Blocks.{Window, windowsOf, rowsOf, logarithm, Block, blockOf, blocksOf, blocks, noBlock, passes, weight}
 use Rattle.basics.specs.Lists.{Every, every-at, every-append, Any, any-at, at-any, any-left, any-right, any-cases, any-map, any-back, total-append, Different}
 use Rattle.heap_laws.specs.Inequality.{isMonge-is}
 use Rattle.splits.specs.Windows.{Inside, windows-inside, pair-once, spanned, Spans, rows-few, cols-few}
-use Rattle.basics.specs.Sequences.{length-upFrom, getD-upFrom, length-downTo, getD-downTo, map-at}
-use Rattle.labelling_laws.specs.Places.{different-at}
+use Rattle.basics.specs.Places.{different-at}
+use Rattle.basics.specs.Pieces.{block-rows, block-cols, row-vertex, col-vertex, entry-at}
 use Rattle.labelling_laws.specs.Walks.{ArcOf, BlockArc, walk-map}
 use Rattle.labelling_laws.specs.OneBlock.{Fit}
 use Rattle.labelling_laws.specs.Acceptance.{Suits}
-
--- the place of column i, counted from the first of the n places
-column-at : (s n i : ℕ) → i < n → getD (downTo s n) i 0 ≡ s + (n - suc i)
-column-at s n i l = getD-downTo s n i l ∙ (omega arith)
-
--- ---- a block by places
-
-module _ (q : Piece) (w : Window) where
-  pub rows-length : length ((blockOf q w) .rows) ≡ w .rows
-  unfolding blockOf rowsOf
-  rows-length = simp (length-map, length-upFrom)
-
-  pub cols-length : length ((blockOf q w) .cols) ≡ w .cols
-  unfolding blockOf columnsOf
-  cols-length = simp (length-map, length-downTo)
-
-  -- the vertex of row i, of column k, and the entry at both
-  pub row-vertex : (i : ℕ) → i < w .rows → getD ((blockOf q w) .rows) i 0 ≡ getD (q .vertices) (w .row0 + i) 0
-  unfolding blockOf rowsOf
-  row-vertex i l = map-at (λ j. getD (q .vertices) j 0) (upFrom (w .row0) (w .rows)) i 0 0 (rw length-upFrom l) ∙ rw (getD-upFrom (w .row0) (w .rows) i l)
-
-  pub col-vertex : (k : ℕ) → k < w .cols → getD ((blockOf q w) .cols) k 0 ≡ getD (q .vertices) (w .col0 + (w .cols - suc k)) 0
-  unfolding blockOf columnsOf
-  col-vertex k l = map-at (λ j. getD (q .vertices) j 0) (downTo (w .col0) (w .cols)) k 0 0 (rw length-downTo l) ∙ rw (column-at (w .col0) (w .cols) k l)
-
-  pub entry-at : (i k : ℕ) → i < w .rows → k < w .cols → (blockOf q w) .lengths i k ≡ entry q (w .row0 + i) (w .col0 + (w .cols - suc k))
-  unfolding blockOf rowsOf columnsOf
-  entry-at i k li lk = rw (getD-upFrom (w .row0) (w .rows) i li, column-at (w .col0) (w .cols) k lk)
 
 -- ---- the blocks fit
 
@@ -62,7 +33,7 @@ stretch-differs vs d s (suc n) l = (without (suc s) n (omega arith) (omega arith
   where
     without : (t k : ℕ) → s < t → t + k ≤ length vs → mem (getD vs s 0) (map (λ i. getD vs i 0) (upFrom t k)) ≡ false
     without t zero h m = refl
-    without t (suc k) h m = simp (ne-eqb (getD vs s 0) (getD vs t 0) (different-at vs d s t h (omega arith))) (without (suc t) k (omega arith) (omega arith))
+    without t (suc k) h m = simp (ne-eqb (getD vs s 0) (getD vs t 0) (λ q. let e : s ≡ t = different-at vs d s t (omega arith) (omega arith) q in omega arith)) (without (suc t) k (omega arith) (omega arith))
 
 module _ (n : ℕ) where
   fit-one : (q : Piece) → Suits n q → (w : Window) → Inside (sizeOf q) w → passes (blockOf q w) ≡ true → Fit n (blockOf q w)
@@ -70,9 +41,9 @@ module _ (n : ℕ) where
   fit-one q su w i ok = record {
     rows-differ = unfold blockOf rowsOf in stretch-differs (q .vertices) (su .vertices-differ) (w .row0) (w .rows) (i .rows-in);
     cols-in = λ c l.
-        let lc : c < w .cols = rw cols-length at l in
-        rw (col-vertex q w c lc) (every-at (λ v. (1 ≤ v) × (v ≤ n)) (q .vertices) (su .vertices-in) (w .col0 + (w .cols - suc c)) 0 (omega (arith, i .cols-in)));
-    short = λ r c lr lc. rw (entry-at q w r c (rw rows-length at lr) (rw cols-length at lc)) (su .short (w .row0 + r) (w .col0 + (w .cols - suc c)));
+        let lc : c < w .cols = rw block-cols at l in
+        rw (col-vertex q w c lc) (every-at (λ v. (1 ≤ v) × (v ≤ n)) (q .vertices) (su .vertices-in) (w .col0 + (w .cols - 1 - c)) 0 (omega (arith, i .cols-in)));
+    short = λ r c lr lc. rw (entry-at q w r c (rw block-rows at lr) (rw block-cols at lc)) (su .short (w .row0 + r) (w .col0 + (w .cols - 1 - c)));
     monge = isMonge-is _ _ _ ok;
   }
 
@@ -93,14 +64,14 @@ arc-to-block q u v l a w s =
     let i : ℕ = a .here - w .row0 in
     let k : ℕ = w .cols - suc (a .there - w .col0) in
     let at-row : w .row0 + (a .here - w .row0) ≡ a .here = omega (arith, s .row-from) in
-    let at-col : w .col0 + (w .cols - suc (w .cols - suc (a .there - w .col0))) ≡ a .there = omega (arith, s .col-from, s .col-to) in
+    let at-col : w .col0 + (w .cols - 1 - (w .cols - suc (a .there - w .col0))) ≡ a .there = omega (arith, s .col-from, s .col-to) in
     let row-in : a .here - w .row0 < w .rows = omega (arith, s .row-from, s .row-to) in
     let col-in : w .cols - suc (a .there - w .col0) < w .cols = omega (arith, s .col-from, s .col-to) in
     record {
       row = i;
       col = k;
-      row-in = rw rows-length row-in;
-      col-in = rw cols-length col-in;
+      row-in = rw block-rows row-in;
+      col-in = rw block-cols col-in;
       tail = row-vertex q w i row-in ∙ rw at-row (a .tail);
       head = col-vertex q w k col-in ∙ rw at-col (a .head);
       length-is = entry-at q w i k row-in col-in ∙ rw (at-row, at-col) (a .length-is);
@@ -108,11 +79,11 @@ arc-to-block q u v l a w s =
 
 arc-to-piece : (q : Piece) (u v l : ℕ) (w : Window) → Inside (sizeOf q) w → ArcOf (blockOf q w) u v l → ArcIn q u v l
 arc-to-piece q u v l w i a =
-    let row-in : a .row < w .rows = rw rows-length at (a .row-in) in
-    let col-in : a .col < w .cols = rw cols-length at (a .col-in) in
+    let row-in : a .row < w .rows = rw block-rows at (a .row-in) in
+    let col-in : a .col < w .cols = rw block-cols at (a .col-in) in
     record {
       here = w .row0 + a .row;
-      there = w .col0 + (w .cols - suc (a .col));
+      there = w .col0 + (w .cols - 1 - a .col);
       here-in = omega (arith, i .rows-in);
       there-in = omega (arith, i .cols-in);
       differ = ⊎-elim (λ (p : w .row0 + w .rows ≤ w .col0). λ q. omega arith) (λ (p : w .col0 + w .cols ≤ w .row0). λ q. omega arith) (i .apart);
@@ -171,10 +142,10 @@ module _ (f : Block → ℕ) (g : Window → ℕ) (same : (q : Piece) (w : Windo
       omega (arith, total-append f (blocksOf q) (blocks qs), of-piece q (windowsOf (sizeOf q)), few (sizeOf q) (h .0 .size-high), of-all n qs (h .1))
 
 pub all-rows : (n : ℕ) (qs : List Piece) → Every (Suits n) qs → total (map (λ b. length (b .rows)) (blocks qs)) ≤ weight qs
-all-rows = of-all (λ b. length (b .rows)) (λ w. w .rows) rows-length rows-few
+all-rows = of-all (λ b. length (b .rows)) (λ w. w .rows) block-rows rows-few
 
 pub all-cols : (n : ℕ) (qs : List Piece) → Every (Suits n) qs → total (map (λ b. length (b .cols)) (blocks qs)) ≤ weight qs
-all-cols = of-all (λ b. length (b .cols)) (λ w. w .cols) cols-length cols-few
+all-cols = of-all (λ b. length (b .cols)) (λ w. w .cols) block-cols cols-few
 
 pub rows-cols : (bs : List Block) → total (map (λ b. 3 * length (b .rows) + 2 * length (b .cols)) bs) ≡ 3 * total (map (λ b. length (b .rows)) bs) + 2 * total (map (λ b. length (b .cols)) bs)
 unfolding total

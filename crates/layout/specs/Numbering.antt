@@ -8,43 +8,35 @@
 --   firsts-are                           what is returned for a piece is the number of its first block
 use mathlib.Core.Path.{_≡_, refl, sym, ap, _∙_}
 use mathlib.Core.Logic.{_⊎_, inl, inr}
-use mathlib.Core.List.{List, [], _∷_, _++_, map, append-nil, append-assoc, map-append}
+use mathlib.Core.List.{List, [], _∷_, _++_, map, append-nil, append-assoc, map-append, map-map}
 use Prim.Native.Nat.{ℕ, zero, suc, pred, _+_, _-_, _*_, _≤_, _<_}
 use native.Mathlib.Nat.{le-refl}
 use native.Mathlib.Omega.{arith}
 use borrow.Author.Tests.{lt-ltb, le-ltb, le-leb}
-use lib.ListN.{getD, length, take, drop, length-append, length-drop, length-map, List·getD-append}
-use lib.Seq.{length-take-le, getD-append-add}
-use Rattle.definitions.specs.Limits.{maxPieces, maxSize, vertexPlaces, lengthPlaces, rowPlaces}
+use lib.ListN.{getD, length, take, length-append, length-map, List·getD-append}
+use lib.Seq.{getD-append-add}
+use Rattle.definitions.specs.Limits.{maxPieces, maxSize, vertexPlaces, lengthPlaces}
 use Rattle.definitions.specs.Lists.{upFrom}
 use Rattle.definitions.specs.Network.{Piece, sizeOf}
 use Rattle.definitions.specs.Blocks.{splits, splitsOf, Window, windows, windowsOf, Block, blockOf, blocksOf, blocks}
 use Rattle.definitions.specs.Judgement.{pieceAt, piecesOf}
 use Rattle.basics.specs.Tests.{split-at}
-use Rattle.basics.specs.Sequences.{getD-each, map-at}
+use Rattle.basics.specs.Sequences.{upFrom-snoc, getD-each, map-at}
+use Rattle.basics.specs.Pieces.{piece-size}
 use Rattle.layout.specs.Layout.{sizeAt, Placement, place, piecePlacements, placementsUpTo, placementsOf, blocksUpTo, firstsOf}
 use Rattle.layout.specs.Placements.{size-small, length-windowsOf, length-upTo}
 
 -- ---- lists
 
--- the numbers from s on: one more, and the first d of them
-upFrom-more : (s n : ℕ) → upFrom s (suc n) ≡ upFrom s n ++ ((s + n) ∷ [])
-unfolding upFrom
-upFrom-more s zero = let e : s + 0 ≡ s = omega arith in rw e
-upFrom-more s (suc n) = let e : s + suc n ≡ suc s + n = omega arith in rw e (ap (λ (t : List ℕ). s ∷ t) (upFrom-more (suc s) n))
-
+-- the numbers from 0 on: one more; the first d images
 upFrom-next : (n : ℕ) → upFrom 0 (suc n) ≡ upFrom 0 n ++ (n ∷ [])
-upFrom-next n = let e : 0 + n ≡ n = omega arith in rw e at (upFrom-more 0 n)
+upFrom-next n = let e : 0 + n ≡ n = omega arith in rw e at (upFrom-snoc 0 n)
 
 take-each : {A : Type 0} (f : ℕ → A) (s d n : ℕ) → d ≤ n → take d (map f (upFrom s n)) ≡ map f (upFrom s d)
 unfolding upFrom
 take-each f s zero n l = refl
 take-each f s (suc d) zero l = absurd (omega arith)
 take-each f s (suc d) (suc n) l = rw (take-each f (suc s) d n (omega arith))
-
-map-in : {A B C : Type 0} (f : A → B) (g : B → C) (xs : List A) → map g (map f xs) ≡ map (λ x. g (f x)) xs
-map-in f g [] = refl
-map-in f g (x ∷ xs) = rw (map-in f g xs)
 
 -- ---- sizes
 
@@ -79,10 +71,7 @@ module _ (p : ℕ) (sizes vertices lengths : List ℕ) (fits : Fits p sizes vert
   size-is d l = rw (lt-ltb d p l, le-leb (getD sizes d 0) maxSize (fits .small d l))
 
   pub sizeOf-is : (d : ℕ) → d < p → sizeOf (pieceAt sizes vertices lengths d) ≡ sizeAt p sizes d
-  unfolding sizeOf pieceAt
-  sizeOf-is d l =
-      length-take-le (getD sizes d 0) (drop (rowPlaces * d) vertices) (omega (arith, length-drop (rowPlaces * d) vertices, fits .vertices-in, fits .small d l, fits .pieces-in))
-      ∙ sym (size-is d l)
+  sizeOf-is d l = piece-size sizes vertices lengths d (fits .small d l) (omega (arith, fits .vertices-in, fits .pieces-in)) ∙ sym (size-is d l)
 
   -- ---- blocks by placements
 
@@ -90,7 +79,7 @@ module _ (p : ℕ) (sizes vertices lengths : List ℕ) (fits : Fits p sizes vert
   unfolding blocks blocksOf piecePlacements
   blocks-piece d l =
       append-nil (blocksOf (pieceAt sizes vertices lengths d))
-      ∙ rw (sizeOf-is d l) (sym (map-in (place d (sizeAt p sizes d)) (blockAt sizes vertices lengths) (windowsOf (sizeAt p sizes d))))
+      ∙ rw (sizeOf-is d l) (sym (map-map (blockAt sizes vertices lengths) (place d (sizeAt p sizes d)) (windowsOf (sizeAt p sizes d))))
 
   blocks-up-to : (d : ℕ) → d ≤ p → blocks (map (pieceAt sizes vertices lengths) (upFrom 0 d)) ≡ map (blockAt sizes vertices lengths) (placementsUpTo p sizes d)
   unfolding upFrom blocks placementsUpTo

@@ -18,16 +18,17 @@ use lib.Dec.{leb}
 use lib.ListN.{getD, length, take, drop, length-map, List·getD-append}
 use lib.Seq.{getD-append-add, take-suc, take-add, take-length, drop-drop}
 use Rattle.definitions.specs.Limits.{maxPieces, maxSize, vertexPlaces, rowPlaces, tablePlaces}
-use Rattle.definitions.specs.Lists.{all, every, total, upFrom, downTo, padded}
-use Rattle.definitions.specs.Network.{Piece, noPiece}
-use Rattle.definitions.specs.Blocks.{Window, splits, splitsOf, windows, windowsOf, rowsOf, columnsOf, noBlock, blockOf, blocks}
+use Rattle.definitions.specs.Lists.{all, every, total, upFrom, padded}
+use Rattle.definitions.specs.Network.{noPiece}
+use Rattle.definitions.specs.Blocks.{splits, splitsOf, windows, windowsOf, noBlock, blockOf, blocks}
 use Rattle.definitions.specs.Judgement.{pieceAt, piecesOf}
 use Rattle.basics.specs.Tests.{split-at}
 use Rattle.basics.specs.Lists.{all-at, Every, every-is, every-at, length-padded}
 use Rattle.splits.specs.Windows.{Inside, windows-inside}
-use Rattle.monge.specs.Copies.{block-entry, block-rows, block-cols}
+use Rattle.monge.specs.Copies.{block-entry}
 use Rattle.monge.specs.Matrix.{at, reversedRow, reversed, rowsIn}
-use Rattle.basics.specs.Sequences.{getD-each, getD-upFrom, length-upFrom, getD-downTo, length-downTo, map-at}
+use Rattle.basics.specs.Sequences.{getD-each, length-upFrom, map-at}
+use Rattle.basics.specs.Pieces.{block-rows, block-cols, row-vertex, col-vertex}
 use Rattle.layout.specs.Layout.{sizeAt, matrixRow, matrixOf, Placement, place, placementsOf, words, wordsOf, rowOf, colOf, lastOf, numbers, numbersFrom, partNumbers, partPlaces, maxWords, partsOf, slotIn, rowIn, colIn, colsIn, lastIn, rowCountIn, blocksUpTo}
 use Rattle.layout.specs.Numbers.{length-numbers, words-append}
 use Rattle.layout.specs.Placements.{size-small, length-upTo, blocks-few, length-windowsOf, words-few}
@@ -177,19 +178,6 @@ module _ (p : ℕ) (sizes : List ℕ) where
 
 -- ---- the blocks of the network
 
-module _ (q : Piece) (w : Window) where
-  pub vertex-of-row : (i : ℕ) → i < w .rows → getD (blockOf q w .rows) i 0 ≡ getD (q .vertices) (w .row0 + i) 0
-  unfolding blockOf rowsOf
-  vertex-of-row i l =
-      map-at (λ j. getD (q .vertices) j 0) (upFrom (w .row0) (w .rows)) i 0 0 (omega (arith, length-upFrom (w .row0) (w .rows)))
-      ∙ rw (getD-upFrom (w .row0) (w .rows) i l)
-
-  vertex-of-column : (k : ℕ) → k < w .cols → getD (blockOf q w .cols) k 0 ≡ getD (q .vertices) (w .col0 + (w .cols - 1 - k)) 0
-  unfolding blockOf columnsOf
-  vertex-of-column k l =
-      map-at (λ j. getD (q .vertices) j 0) (downTo (w .col0) (w .cols)) k 0 0 (omega (arith, length-downTo (w .col0) (w .cols)))
-      ∙ rw (getD-downTo (w .col0) (w .cols) k l)
-
 module _ (p : ℕ) (sizes vertices lengths : List ℕ) (fits : Fits p sizes vertices lengths) where
   pub block-count : length (blocks (piecesOf p sizes vertices lengths)) ≡ length (placementsOf p sizes)
   block-count = rw (blocks-are p sizes vertices lengths fits) (length-map (placementsOf p sizes) (blockAt sizes vertices lengths))
@@ -248,14 +236,14 @@ module _ (p : ℕ) (sizes vertices lengths : List ℕ) (fits : Fits p sizes vert
     row-placed i r =
         let j = x .window .row0 + i in
         let e : rowPlaces * x .piece + j ≡ rowOf x + i = omega arith in
-        vertex-of-row (pieceAt sizes vertices lengths (x .piece)) (x .window) i r ∙ vertex-placed j (omega (arith, h .inside .rows-in)) ∙ rw e
+        row-vertex (pieceAt sizes vertices lengths (x .piece)) (x .window) i r ∙ vertex-placed j (omega (arith, h .inside .rows-in)) ∙ rw e
 
     column-placed : (k : ℕ) → k < x .window .cols → getD (blockAt sizes vertices lengths x .cols) k 0 ≡ getD vertices (lastOf x - k) 0
     column-placed k r =
         let w = x .window in
         let j = w .col0 + (w .cols - 1 - k) in
         let e : rowPlaces * x .piece + j ≡ lastOf x - k = omega arith in
-        vertex-of-column (pieceAt sizes vertices lengths (x .piece)) w k r ∙ vertex-placed j (omega (arith, h .inside .cols-in)) ∙ rw e
+        col-vertex (pieceAt sizes vertices lengths (x .piece)) w k r ∙ vertex-placed j (omega (arith, h .inside .cols-in)) ∙ rw e
 
   -- ---- by the block's number
 

@@ -1,40 +1,23 @@
 -- Which blocks of a piece have a vertex as a row, and as which row.
---   placeOf-none placeOf-at      a vertex that does not stand in a list, and the place of one that does
 --   row-inside row-outside       a vertex of the piece: its row where the block's rows have its place, else none
 --   row-absent                   a vertex that the piece does not have
 --   row-elsewhere                no block of a stretch has a vertex as a row whose place is outside the stretch
-use mathlib.Core.Path.{_≡_, refl, sym, _∙_}
+use mathlib.Core.Path.{_≡_, sym, _∙_}
 use mathlib.Core.Logic.{_⊎_, inl, inr, ⊎-elim, _≢_}
-use mathlib.Core.List.{List, [], _∷_}
 use mathlib.Core.Option.{none, some}
-use Prim.Native.Nat.{ℕ, zero, suc, pred, _+_, _-_, _*_, _≤_, _<_}
+use Prim.Native.Nat.{ℕ, pred, _+_, _-_, _*_, _≤_, _<_}
 use native.Mathlib.Omega.{arith}
-use borrow.Author.Tests.{eq-eqb, ne-eqb}
 use lib.ListN.{getD, length}
 use Rattle.definitions.specs.Limits.{maxSize}
 use Rattle.definitions.specs.Network.{Piece, sizeOf}
 use Rattle.definitions.specs.Blocks.{Window, windowsOf, blockOf}
 use Rattle.definitions.specs.Labelling.{placeOf}
 use Rattle.basics.specs.Lists.{Different, every-at}
+use Rattle.basics.specs.Places.{different-at, placeOf-none, placeOf-at}
+use Rattle.basics.specs.Pieces.{block-rows, row-vertex}
 use Rattle.splits.specs.Windows.{Inside, windows-inside}
-use Rattle.monge.specs.Copies.{block-rows}
 use Rattle.layout.specs.Numbering.{noWindow}
-use Rattle.layout.specs.Places.{different-at}
-use Rattle.layout.specs.Parts.{vertex-of-row}
 use Rattle.layout.specs.Stretches.{Stretch, stretch-fits, stretch-window}
-
-pub placeOf-none : (v a : ℕ) (xs : List ℕ) → ((j : ℕ) → j < length xs → getD xs j 0 ≢ v) → placeOf v a xs ≡ none
-unfolding placeOf
-placeOf-none v a [] f = refl
-placeOf-none v a (x ∷ xs) f = rw (ne-eqb v x (λ e. f 0 (omega arith) (sym e))) (placeOf-none v (suc a) xs (λ j l. f (suc j) (omega arith)))
-
-pub placeOf-at : (v a : ℕ) (xs : List ℕ) (i : ℕ) → i < length xs → getD xs i 0 ≡ v → ((j : ℕ) → j < i → getD xs j 0 ≢ v) → placeOf v a xs ≡ some (a + i)
-unfolding placeOf
-placeOf-at v a [] i l h f = absurd (omega arith)
-placeOf-at v a (x ∷ xs) zero l h f = let e : a + 0 ≡ a = omega arith in rw (eq-eqb v x (sym h), e)
-placeOf-at v a (x ∷ xs) (suc i) l h f =
-    let e : a + suc i ≡ suc a + i = omega arith in
-    rw (ne-eqb v x (λ e. f 0 (omega arith) (sym e)), e) (placeOf-at v (suc a) xs i (omega arith) h (λ j r. f (suc j) (omega arith)))
 
 -- ---- the rows of a block
 
@@ -42,7 +25,7 @@ module _ (q : Piece) (w : Window) where
   -- no place of the rows has v
   row-none : (v : ℕ) → ((r : ℕ) → r < w .rows → getD (q .vertices) (w .row0 + r) 0 ≢ v) → placeOf v 0 (blockOf q w .rows) ≡ none
   row-none v f =
-      placeOf-none v 0 (blockOf q w .rows) (λ r l e. let n : r < w .rows = rw (block-rows q w) at l in f r n (sym (vertex-of-row q w r n) ∙ e))
+      placeOf-none v 0 (blockOf q w .rows) (λ r l e. let n : r < w .rows = rw (block-rows q w) at l in f r n (sym (row-vertex q w r n) ∙ e))
 
   module _ (inside : w .row0 + w .rows ≤ sizeOf q) where
     pub row-absent : (v : ℕ) → ((i : ℕ) → i < sizeOf q → getD (q .vertices) i 0 ≢ v) → placeOf v 0 (blockOf q w .rows) ≡ none
@@ -60,8 +43,8 @@ module _ (q : Piece) (w : Window) where
           let n : r < w .rows = omega arith in
           let e : w .row0 + r ≡ i = omega arith in
           let z : 0 + r ≡ r = omega arith in
-          placeOf-at v 0 (blockOf q w .rows) r (omega (arith, block-rows q w)) (vertex-of-row q w r n ∙ rw e h)
-          (λ j s k. let x : w .row0 + j ≡ i = only j (omega arith) (sym (vertex-of-row q w j (omega arith)) ∙ k) in omega arith)
+          placeOf-at v 0 (blockOf q w .rows) r (omega (arith, block-rows q w)) (row-vertex q w r n ∙ rw e h)
+          (λ j s k. let x : w .row0 + j ≡ i = only j (omega arith) (sym (row-vertex q w j (omega arith)) ∙ k) in omega arith)
           ∙ rw z
 
       pub row-outside : (i < w .row0) ⊎ (w .row0 + w .rows ≤ i) → placeOf v 0 (blockOf q w .rows) ≡ none

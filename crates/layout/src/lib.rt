@@ -6,8 +6,8 @@ ghost use Prim.Native.Nat.{pred, _+_, _-_, _*_, _<_, _≤_};
 ghost use lib.ListN.{length, getD};
 ghost use lib.Seq.{sets};
 ghost use Rattle.definitions.specs.Blocks.{allSplits};
-ghost use Rattle.splits.specs.Table.{flattened};
-ghost use Rattle.layout.specs.Layout.{sizeAt, turned, matrixRow, matrixOf, storePlace, storePlaces, placesOf, splitOf, splitPlacements, piecePlacements, Stored, partsOf, firstsOf};
+ghost use Rattle.splits.specs.Table.{flattened, splitOf};
+ghost use Rattle.layout.specs.Layout.{sizeAt, turned, matrixRow, matrixOf, storePlace, storePlaces, placesOf, splitPlacements, piecePlacements, Stored, partsOf, firstsOf};
 use bounds::Network;
 use splits::Split;
 

@@ -1,5 +1,6 @@
 -- What the list of splits holds, and the laws of the halving.
 pub mod Table
 pub mod Halving
+pub mod Sizes
 pub mod Windows
 pub mod SplitTheorems

@@ -1,6 +1,7 @@
 -- What the functions of the list return.
 --   flattened                    the list as numbers
---   places noSplit splitIn       an entry of such numbers
+--   places splitOf               a split as the code has it, as the definitions have it
+--   noSplit splitIn              an entry of such numbers
 --   firstSplit                   where the splits of a size begin
 use mathlib.Core.Bool.{cond}
 use mathlib.Core.List.{List, [], _∷_}
@@ -20,6 +21,10 @@ flattened (c ∷ cs) = c .first ∷ c .middle ∷ c .end ∷ flattened cs
 -- a split as the code has it
 abbrev pub places : Split → code.Split
 places c = record { first = c .first; middle = c .middle; end = c .end }
+
+-- a split as the definitions have it
+abbrev pub splitOf : code.Split → Split
+splitOf c = record { first = c .first; middle = c .middle; end = c .end }
 
 abbrev pub noSplit : Split
 noSplit = record { first = 0; middle = 0; end = 0 }

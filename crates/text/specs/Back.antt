@@ -1,11 +1,12 @@
 -- The pieces read back from the buffers that hold them: what the labelling is lent is what the text says.
 use mathlib.Core.Path.{_≡_, refl, sym, ap, _∙_}
-use mathlib.Core.List.{List, [], _∷_, _++_, map, map-append, flatMap, append-assoc}
+use mathlib.Core.List.{List, [], _∷_, _++_, map, map-append, map-congr-left, flatMap, append-assoc}
 use Prim.Native.Nat.{ℕ, suc, _+_, _-_, _*_}
 use native.Mathlib.Omega.{arith}
 use lib.ListN.{getD, length, take, drop, replicate, length-append, length-map}
 use lib.Seq.{take-at, drop-at, getD-at, drop-drop}
 use Rattle.basics.specs.Lists.{Every, every-append}
+use Rattle.basics.specs.Buffers.{flatMap-append}
 use Rattle.definitions.specs.Limits.{lengthPlaces, rowPlaces, tablePlaces}
 use Rattle.definitions.specs.Lists.{padded, upFrom}
 use Rattle.definitions.specs.Network.{Piece, sizeOf}
@@ -13,15 +14,6 @@ use Rattle.definitions.specs.Judgement.{pieceAt, piecesOf}
 use Rattle.definitions.specs.Text.{sizesOf, verticesOf, tableOf, lengthsOf}
 use Rattle.text.specs.Pieces.{Shaped, vertices-long, tables-long}
 use Rattle.text.specs.Rows.{rows-from}
-
-flatMap-append : {A : Type 0} (f : A → List ℕ) (xs ys : List A) → flatMap f (xs ++ ys) ≡ flatMap f xs ++ flatMap f ys
-unfolding flatMap
-flatMap-append f [] ys = refl
-flatMap-append f (x ∷ xs) ys = rw (flatMap-append f xs ys) (sym (append-assoc (f x) (flatMap f xs) (flatMap f ys)))
-
-map-cong : {A B : Type 0} (f g : A → B) (xs : List A) → ((x : A) → f x ≡ g x) → map f xs ≡ map g xs
-map-cong f g [] e = refl
-map-cong f g (x ∷ xs) e = rw (e x, map-cong f g xs e)
 
 -- a piece between others
 module _ (done rest : List Piece) (q : Piece) (before : Every Shaped done) (shape : Shaped q) where
@@ -51,9 +43,8 @@ module _ (done rest : List Piece) (q : Piece) (before : Every Shaped done) (shap
 
   rows-back-at : map (λ i. take (sizeOf q) (drop (tablePlaces * length done + rowPlaces * i) (lengthsOf (done ++ q ∷ rest)))) (upFrom 0 (sizeOf q)) ≡ q .rows
   rows-back-at =
-      map-cong (λ i. take (sizeOf q) (drop (tablePlaces * length done + rowPlaces * i) (lengthsOf (done ++ q ∷ rest))))
-      (λ i. take (sizeOf q) (drop (rowPlaces * i) (flatMap (padded rowPlaces 0) (q .rows) ++ behind))) (upFrom 0 (sizeOf q))
-      (λ i. ap (λ (l : List ℕ). take (sizeOf q) l) (sym (drop-drop (rowPlaces * i) (tablePlaces * length done) (lengthsOf (done ++ q ∷ rest))) ∙ ap (λ (l : List ℕ). drop (rowPlaces * i) l) table-back))
+      map-congr-left {g = λ i. take (sizeOf q) (drop (rowPlaces * i) (flatMap (padded rowPlaces 0) (q .rows) ++ behind))} {l = upFrom 0 (sizeOf q)}
+      (λ i _. ap (λ (l : List ℕ). take (sizeOf q) l) (sym (drop-drop (rowPlaces * i) (tablePlaces * length done) (lengthsOf (done ++ q ∷ rest))) ∙ ap (λ (l : List ℕ). drop (rowPlaces * i) l) table-back))
       ∙ rw (← shape .tall) (rows-from (length (q .rows)) 0 [] behind (q .rows) (omega (arith, shape .tall, shape .high)) (rw (← shape .tall) at (shape .wide)) refl)
 
   pub piece-back : pieceAt (sizesOf (done ++ q ∷ rest)) (verticesOf (done ++ q ∷ rest)) (lengthsOf (done ++ q ∷ rest)) (length done) ≡ q

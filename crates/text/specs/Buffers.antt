@@ -1,31 +1,15 @@
 -- A buffer of zeros that is filled from its front: `padded size 0 xs` holds xs.
---   put            a list put over the places from one on
 --   part-size part-long part-put part-kept   a lent part: how long it is, and what it leaves
---   put-padded     put behind what is held
 --   padded-inner   a part that is padded itself
-use mathlib.Core.Path.{_≡_, _∙_}
+use mathlib.Core.Path.{_≡_, sym, _∙_}
 use mathlib.Core.List.{List, _++_, append-assoc}
-use Prim.Native.Nat.{ℕ, zero, suc, _+_, _-_, _≤_}
+use Prim.Native.Nat.{ℕ, _+_, _-_, _≤_}
 use native.Mathlib.Omega.{arith}
 use lib.ListN.{length, take, drop, replicate, length-append, length-drop, length-replicate, replicate-append-replicate}
-use lib.Seq.{take-at, drop-at, length-take-le}
+use lib.Seq.{length-take-le, drop-drop}
 use borrow.Rule.Slice.PartMut.{same-len-mid}
 use Rattle.definitions.specs.Lists.{padded}
-
-unfoldable pub put : List ℕ → ℕ → List ℕ → List ℕ
-put l a xs = take a l ++ (xs ++ drop (length xs) (drop a l))
-
-drop-replicate : (n k : ℕ) → drop {A = ℕ} k (replicate n 0) ≡ replicate (n - k) 0
-drop-replicate n zero = let e : n - 0 ≡ n = (omega arith) in rw e
-drop-replicate zero (suc k) = let e : 0 - suc k ≡ 0 = (omega arith) in rw e
-drop-replicate (suc n) (suc k) = let e : suc n - suc k ≡ n - k = (omega arith) in rw e (drop-replicate n k)
-
-pub put-padded : (size : ℕ) (ys xs : List ℕ) (a : ℕ) → length ys ≡ a → a + length xs ≤ size → put (padded size 0 ys) a xs ≡ padded size 0 (ys ++ xs)
-unfolding put padded
-put-padded size ys xs a e h =
-    let z : size - length ys - length xs ≡ size - (length ys + length xs) = (omega arith) in
-    rw (take-at ys (replicate (size - length ys) 0) a e, drop-at ys (replicate (size - length ys) 0) a e, drop-replicate (size - length ys) (length xs), z)
-    (simp (append-assoc, length-append))
+use Rattle.basics.specs.Buffers.{put}
 
 pub padded-inner : (size part : ℕ) (ys xs : List ℕ) → length xs ≤ part → length ys + part ≤ size → padded size 0 (ys ++ padded part 0 xs) ≡ padded size 0 (ys ++ xs)
 unfolding padded
@@ -50,7 +34,7 @@ module _ (a m : ℕ) (l part : List ℕ) (lent : length part ≡ length (take (a
   unfolding put
   part-put =
       let z : a + m - a ≡ length part = (omega (arith, part-long)) in
-      rw z
+      rw (z, drop-drop (length part) a l) (sym (append-assoc (take a l) part (drop (a + length part) l)))
 
   pub part-kept : length (take a l ++ (part ++ drop (a + m - a) (drop a l))) ≡ length l
   part-kept = same-len-mid a (a + m - a) l part lent

@@ -12,12 +12,11 @@ use mathlib.Core.Logic.{_≢_}
 use mathlib.Core.List.{List, [], _∷_, _++_, map, map-append, flatMap, append-nil}
 use Prim.Native.Nat.{ℕ, zero, suc, _+_, _-_, _*_, _≤_, _<_}
 use native.Mathlib.Nat.{mul-le-mul}
-use native.Mathlib.Numerals.{add-one}
 use native.Mathlib.Omega.{arith}
 use lib.ListN.{length, take, drop, set, replicate, length-append, length-map}
-use lib.Seq.{drop-at, set-split, drop-drop}
+use lib.Seq.{drop-at}
 use borrow.Author.Tests.{le-leb}
-use Rattle.basics.specs.Buffers.{flatMap-snoc}
+use Rattle.basics.specs.Buffers.{flatMap-snoc, put, put-padded, set-padded}
 use Rattle.basics.specs.Lists.{Every, every-imp, every-snoc, length-padded, total-append}
 use Rattle.definitions.specs.declared.Field.{Field}
 use Rattle.definitions.specs.declared.Field.the-variants.{Number, Malformed}
@@ -32,7 +31,7 @@ use Rattle.checks.specs.Pieces.{table-blocks}
 use Rattle.monge.specs.Matrix.{rowsIn}
 use Rattle.text.specs.Outcomes.{Came, RowsLeft}
 use Rattle.text.specs.Reading.{after, after-after, after-none, value-same, bind-value, require-value, field-in, judged, judged-stop, pieceOf, readSized, piece-stop, piece-go, vertices-stop, table-stop, table-go, pieces-go, pieces-stop}
-use Rattle.text.specs.Buffers.{put, put-padded, padded-inner}
+use Rattle.text.specs.Buffers.{padded-inner}
 use Rattle.text.specs.Steps.{came-out, came-go, came-judged}
 use Rattle.text.specs.Rows.{rows-back, line-end-in}
 
@@ -81,15 +80,6 @@ pub record Held (qs : List Piece) (sizes vertices lengths : List ℕ) : Type 0 w
 pub held-none : (sizes vertices lengths : List ℕ) → sizes ≡ replicate sizePlaces 0 → vertices ≡ replicate vertexPlaces 0 → lengths ≡ replicate lengthPlaces 0 → Held [] sizes vertices lengths
 unfolding sizesOf verticesOf lengthsOf padded flatMap
 held-none sizes vertices lengths e f g = record { shaped = tt; sizes-hold = e; vertices-hold = f; lengths-hold = g }
-
-set-padded : (size : ℕ) (xs : List ℕ) (a x : ℕ) → length xs ≡ a → a < size → set (padded size 0 xs) a x ≡ padded size 0 (xs ++ x ∷ [])
-unfolding put
-set-padded size xs a x e h =
-    let long : a < length (padded size 0 xs) = omega (arith, length-padded size 0 xs (omega arith)) in
-    set-split (padded size 0 xs) a x long ∙ rw (← drop-one) (put-padded size xs (x ∷ []) a e (omega arith))
-  where
-    drop-one : drop 1 (drop a (padded size 0 xs)) ≡ drop (suc a) (padded size 0 xs)
-    drop-one = drop-drop 1 a (padded size 0 xs) ∙ rw (add-one a)
 
 -- one piece more
 module _ (qs : List Piece) (q : Piece) (sizes vertices lengths : List ℕ) (held : Held qs sizes vertices lengths) (shape : Shaped q) (d : ℕ) (count : length qs ≡ d) (room : d < sizePlaces) where

@@ -13,7 +13,7 @@ use lib.Dec.{eqb}
 use lib.ListN.{getD, length, take, drop, replicate, length-append, List·getD-eq-default}
 use lib.Seq.{take-at, drop-at}
 use Rattle.basics.specs.Tests.{Order, less, more, order, Truth, holds, fails, truth}
-use Rattle.basics.specs.Buffers.{flatMap-snoc}
+use Rattle.basics.specs.Buffers.{flatMap-snoc, put, put-padded}
 use Rattle.basics.specs.Lists.{Every, every-snoc, length-padded}
 use Rattle.definitions.specs.Limits.{rowPlaces, tablePlaces}
 use Rattle.definitions.specs.Lists.{padded, upFrom}
@@ -21,7 +21,7 @@ use Rattle.definitions.specs.Judgement.{judgeRow}
 use Rattle.definitions.specs.Text.{Read, refused, value, _>>=_, require, readFields, judgeLineEnd, readLine, lineBytes, readRows}
 use Rattle.text.specs.Outcomes.{Came, RowsLeft}
 use Rattle.text.specs.Reading.{after, after-after, after-none, judged, rows-go, rows-stop}
-use Rattle.text.specs.Buffers.{put, put-padded, padded-inner}
+use Rattle.text.specs.Buffers.{padded-inner}
 use Rattle.text.specs.Steps.{came-out, came-go}
 
 -- ---- a line lies in the text

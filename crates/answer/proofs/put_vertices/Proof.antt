@@ -7,7 +7,7 @@ use native.Mathlib.Omega.{arith}
 use borrow.Author.Needs.{needs}
 use lib.ListN.{getD, length}
 use Rattle.answer.specs.Listing.{listingLineBytes}
-use Rattle.answer.specs.Output.{put}
+use Rattle.basics.specs.Buffers.{put}
 use Rattle.answer.specs.Lines.{length-line, vertexLines, length-vertices, vertices-turn, vertices-all}
 use Rattle.answer.proofs.put_vertices.Statement.{statement}
 use Rattle.answer.proofs.put_vertices.Tie as tie

@@ -21,7 +21,7 @@ use Rattle.definitions.specs.Labelling.{BlockState, placeOf, activateVertex, no
 use Rattle.basics.specs.Tests.{split-at}
 use Rattle.basics.specs.Lists.{Every, every-at}
 use Rattle.splits.specs.Windows.{Inside, windows-inside}
-use Rattle.monge.specs.Copies.{block-rows}
+use Rattle.basics.specs.Pieces.{block-rows}
 use Rattle.layout.specs.Layout.{placeCount, placeNumber, rowIn, rowCountIn, maxBlocks}
 use Rattle.layout.specs.Placements.{length-windowsOf}
 use Rattle.layout.specs.Numbering.{noWindow}
