@@ -9,10 +9,13 @@ ghost use Rattle.definitions.specs.Entries.{listingLine, refusalLine};
 ghost use Rattle.answer.specs.Listing.{listingLineBytes, writeListing};
 ghost use Rattle.answer.specs.Output.{Put};
 ghost use Rattle.answer.specs.Lines.{vertexLines};
+use bounds::Line;
 use bounds::Network;
 
 // The places of the output, room for the longest listing: a line of four fields, and one of two for each vertex.
-pub const LISTING_BYTES: usize = 37 + 19 * Network::LABEL_PLACES;
+pub const LISTING_BYTES: usize = 4 * Line::FIELD_BYTES
+    + 1
+    + Network::LABEL_PLACES * (2 * Line::FIELD_BYTES + 1);
 
 // Puts a line and the byte 10 behind it into the output from a place on; the place behind them.
 fn put_line(out: &mut [u8], at: usize, line: &[u8]) -> usize
@@ -25,7 +28,7 @@ fn put_line(out: &mut [u8], at: usize, line: &[u8]) -> usize
         i += 1;
     }
     let end = at + i;
-    out[end] = 10;
+    out[end] = b'\n';
     end + 1
 }
 
@@ -34,13 +37,13 @@ fn put_fields(out: &mut [u8], at: usize, numbers: &[u32]) -> usize
     requires { ⌜ (length (now numbers) ≤ 4) × (at + listingLineBytes (length (now numbers)) ≤ length (now out)) ⌝ }
     ensures { λ r. ⌜ Put (now (out .entry)) at (listingLine (now (numbers .entry))) r (now (out .exit)) ⌝ }
 {
-    let mut line = [b' '; 36];
+    let mut line = [b' '; Line::BYTES];
     let mut i = 0;
     while i < numbers.len() {
         fields::write_field(&mut line, i, numbers[i]);
         i += 1;
     }
-    let end = 9 * i;
+    let end = Line::FIELD_BYTES * i;
     put_line(out, at, &line[..end])
 }
 

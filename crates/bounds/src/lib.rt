@@ -14,6 +14,9 @@ impl Network {
 
     pub const MAX_LABEL: u32 = 25499745;
 
+    // for a vertex that is not reached, and for a row that is not activated
+    pub const UNREACHED: u32 = 4294967295;
+
     // the places of one row
     pub const ROW_PLACES: usize = 24;
 
@@ -47,6 +50,20 @@ impl Text {
 
     // the bytes of a line of two fields, with its byte 10
     pub const LINE_OF_TWO: usize = 13;
+}
+
+// The layout of a line that is written.
+pub struct Line;
+
+impl Line {
+    // four places for fields
+    pub const BYTES: usize = 36;
+
+    // the bytes of a field
+    pub const FIELD_BYTES: usize = 9;
+
+    // counted from 0
+    pub const LAST_PLACE: usize = 3;
 }
 
 // The numbers of the causes that turn an input away.

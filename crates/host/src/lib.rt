@@ -6,6 +6,7 @@ ghost use Rattle.answer.specs.Listing.{writeListing};
 ghost use Rattle.checks.specs.Lent.{judgeLent};
 ghost use Rattle.engine.specs.Promises.{Kept, Plain};
 ghost use Rattle.host.specs.Entry.{fieldEntry};
+use bounds::Cause;
 use definitions::Field;
 use definitions::LabelAnswer;
 use definitions::ReadAnswer;
@@ -17,15 +18,15 @@ pub extern "C" fn rabdzhine_read_field(text: &[u8], at: usize, value: &mut [u32]
     ensures { λ r. ⌜ record { number = r; value = now (value .exit) } ≡ fieldEntry (now (text .entry)) at (now (value .entry)) ⌝ }
 {
     if value.len() != 1 {
-        return 1;
+        return Cause::BUFFER;
     }
     let field = fields::read_field(text, at);
     let Field::Number(x) = field else {
         value[0] = 0;
-        return 3;
+        return Cause::LAYOUT;
     };
     value[0] = x;
-    0
+    Cause::NONE
 }
 
 #[no_mangle]

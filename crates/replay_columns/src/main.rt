@@ -1,20 +1,17 @@
 // Replays a list of numbers through the writer of nine columns. Each line of standard input is a number; for each its nine columns are
 // written. The number goes into each of the four places of a line, and two calls that the writer must refuse go before it; where one of
 // the refusals is missing or a place differs from the first, `wrong` is written instead. `stdin` and `stdout` are the outside vectors.
+use bounds::Line;
 use libc::STDOUT_FILENO;
 use replay::Token;
 
-// The bytes of a field, of a line, and of a line that is too short.
-const COLUMN_BYTES: usize = 9;
-
-const LINE_BYTES: usize = 36;
-
+// One byte less than a line.
 const SHORT_BYTES: usize = 35;
 
 // Whether the writer refuses a short line by 1, also where the place is out of bounds, and a place out of bounds by 4.
 fn refuses(x: u32) -> bool {
     let mut short = [b' '; SHORT_BYTES];
-    let mut line = [b' '; LINE_BYTES];
+    let mut line = [b' '; Line::BYTES];
     let size = fields::write_field(&mut short, 4, x);
     let place = fields::write_field(&mut line, 4, x);
     size == 1 && place == 4
@@ -22,9 +19,9 @@ fn refuses(x: u32) -> bool {
 
 // Whether the four fields of a line are the same.
 fn repeats(line: &[u8]) -> bool {
-    let mut i = COLUMN_BYTES;
+    let mut i = Line::FIELD_BYTES;
     while i < line.len() {
-        if line[i] != line[i - COLUMN_BYTES] {
+        if line[i] != line[i - Line::FIELD_BYTES] {
             return false;
         }
         i += 1;
@@ -34,14 +31,14 @@ fn repeats(line: &[u8]) -> bool {
 
 // Writes the first field of a line.
 fn write_first(line: &[u8]) {
-    if line.len() >= COLUMN_BYTES {
-        io::write_all(STDOUT_FILENO, &line[0..COLUMN_BYTES]);
+    if line.len() >= Line::FIELD_BYTES {
+        io::write_all(STDOUT_FILENO, &line[0..Line::FIELD_BYTES]);
     }
 }
 
 // Writes the nine columns of a number.
 fn write_columns(x: u32) {
-    let mut line = [b' '; LINE_BYTES];
+    let mut line = [b' '; Line::BYTES];
     fields::write_field(&mut line, 0, x);
     fields::write_field(&mut line, 1, x);
     fields::write_field(&mut line, 2, x);

@@ -1,12 +1,16 @@
 // Replays texts through the whole chain. Standard input is a list of texts, each behind a line with the number of its bytes; for each,
 // what the program `labels` must write is written. `stdin` and `stdout` are the outside vectors of that program, one after the other.
+use bounds::Text;
 use libc::STDIN_FILENO;
 use libc::STDOUT_FILENO;
 use replay::Token;
 
+// One byte more than the longest text shows that a text is too long.
+const ROOM: usize = Text::MAX_BYTES + 1;
+
 // The listing of a text.
 fn write_listing(text: &[u8]) {
-    let mut out = [0u8; 4901];
+    let mut out = [0u8; answer::LISTING_BYTES];
     let written = answer::write_listing(text, &mut out);
     io::write_all(STDOUT_FILENO, &out[..written]);
 }
@@ -23,13 +27,13 @@ fn replay_bytes(text: &mut [u8], size: usize) {
     write_listing(&text[..n]);
 }
 
-// Replays the next text, and answers whether there was one. One byte more than the longest text shows that a text is too long.
+// Replays the next text, and answers whether there was one.
 fn replay_text() -> bool {
     let token = replay::read_number();
     let Token::Number(size) = token else {
         return false;
     };
-    let mut text = [0u8; 60001];
+    let mut text = [0u8; ROOM];
     replay_bytes(&mut text, size as usize);
     true
 }

@@ -60,6 +60,11 @@ const SPLITS: [u8; 828] = [
     15, 16, 18,  16, 17, 18,  18, 21, 24,  18, 19, 21,  19, 20, 21,  21, 22, 24,  22, 23, 24,  // 24
 ];
 
+// How many splits the list has, and the largest size.
+const COUNT: usize = 276;
+
+const MAX_SIZE: usize = 24;
+
 // The list itself. A constant is copied at each use: a caller copies it once and lends it to `split_in`.
 pub fn table() -> [u8; 828]
     ensures { λ r. ⌜ r ≡ flattened allSplits ⌝ }
@@ -91,10 +96,10 @@ pub fn first_split(m: usize) -> usize
     ensures { λ r. ⌜ r ≡ firstSplit m ⌝ }
 {
     if m < 1 {
-        return 276;
+        return COUNT;
     }
-    if m > 24 {
-        return 276;
+    if m > MAX_SIZE {
+        return COUNT;
     }
     let k = m - 1;
     (k * k - k) / 2

@@ -3,10 +3,10 @@ ghost use mathlib.Core.Path.{_≡_};
 ghost use mathlib.Core.List.{List, []};
 ghost use Prim.Native.Nat.{_+_, _<_, _≤_};
 ghost use lib.ListN.{length, replicate};
-ghost use Rattle.definitions.specs.Limits.{sizePlaces, tablePlaces};
+ghost use Rattle.definitions.specs.Limits.{maxSize, sizePlaces, tablePlaces};
 ghost use Rattle.definitions.specs.Network.{Piece};
 ghost use Rattle.definitions.specs.Judgement.{judgeSize, judgeVertices, judgeRow};
-ghost use Rattle.definitions.specs.Text.{readField, readFields, readLine, readRows, readPiece, readPieces, readBody, readPlan};
+ghost use Rattle.definitions.specs.Text.{fieldBytes, readField, readFields, readLine, readRows, readPiece, readPieces, readBody, readPlan};
 ghost use Rattle.definitions.specs.Entries.{readRefusal, reading};
 ghost use Rattle.text.specs.Outcomes.{Came, RowsLeft};
 ghost use Rattle.text.specs.Reading.{judged, readSized};
@@ -15,6 +15,7 @@ ghost use Rattle.text.specs.Plans.{readQuestion, PlanRead};
 use bounds::Cause;
 use bounds::Network;
 use bounds::Text;
+use buffers::fill;
 use definitions::Field;
 use definitions::ReadAnswer;
 
@@ -105,7 +106,7 @@ fn read_size(text: &[u8], at: usize) -> Size
 
 // The rows of a table, each judged as it is read, into 24 rows of 24 places that are 0.
 fn read_rows(text: &[u8], at: usize, m: usize, table: &mut [u32]) -> u32
-    requires { ⌜ (at ≤ length (now text)) × (m ≤ 24) × (now table ≡ replicate tablePlaces 0) ⌝ }
+    requires { ⌜ (at ≤ length (now text)) × (m ≤ maxSize) × (now table ≡ replicate tablePlaces 0) ⌝ }
     ensures { λ r. ⌜ Came (readRows (now (text .entry)) at m 0 m) r (RowsLeft (now (text .entry)) at m (now (table .exit))) ⌝ }
 {
     let mut i = 0;
@@ -125,7 +126,7 @@ fn read_rows(text: &[u8], at: usize, m: usize, table: &mut [u32]) -> u32
 
 // A table's rows, then the check of its blocks.
 fn read_table(text: &[u8], at: usize, m: usize, table: &mut [u32]) -> u32
-    requires { ⌜ (at ≤ length (now text)) × (1 ≤ m) × (m ≤ 24) × (now table ≡ replicate tablePlaces 0) ⌝ }
+    requires { ⌜ (at ≤ length (now text)) × (1 ≤ m) × (m ≤ maxSize) × (now table ≡ replicate tablePlaces 0) ⌝ }
     ensures { λ r. ⌜ TableRead (now (text .entry)) at m r (now (table .exit)) ⌝ }
 {
     let cause = read_rows(text, at, m, table);
@@ -145,7 +146,7 @@ fn read_sized(
     vertices: &mut [u32],
     lengths: &mut [u32],
 ) -> u32
-    requires { ⌜ (at + 6 ≤ length (now text)) × (d < sizePlaces) × (1 ≤ m) × (m ≤ 24) × Free d (now vertices) (now lengths) ⌝ }
+    requires { ⌜ (at + fieldBytes ≤ length (now text)) × (d < sizePlaces) × (1 ≤ m) × (m ≤ maxSize) × Free d (now vertices) (now lengths) ⌝ }
     ensures { λ r. ⌜ Came (readSized (now (text .entry)) n at m) r (SizedLeft (now (text .entry)) at m d (now (vertices .entry)) (now (lengths .entry)) (now (vertices .exit)) (now (lengths .exit))) ⌝ }
 {
     let a = Network::ROW_PLACES * d;
@@ -338,17 +339,6 @@ fn read_plan(
     read_body(text, line[0], line[1], sizes, vertices, lengths)
 }
 
-// Every place of a buffer to 0.
-fn clear(buffer: &mut [u32])
-    ensures { λ _. ⌜ now (buffer .exit) ≡ replicate (length (now (buffer .entry))) 0 ⌝ }
-{
-    let mut i = 0;
-    while i < buffer.len() {
-        buffer[i] = 0;
-        i += 1;
-    }
-}
-
 // Reads a text into the lent sizes, vertices and lengths. A buffer of another size (1) or a text that is too long (2) leaves them; any
 // other refusal leaves them all 0.
 pub fn read_text(
@@ -366,16 +356,16 @@ pub fn read_text(
     if text.len() > Text::MAX_BYTES {
         return refusal(Cause::TEXT);
     }
-    clear(sizes);
-    clear(vertices);
-    clear(lengths);
+    fill(sizes, 0);
+    fill(vertices, 0);
+    fill(lengths, 0);
     let answer = read_plan(text, sizes, vertices, lengths);
     let number = answer.number;
     if number == Cause::NONE {
         return answer;
     }
-    clear(sizes);
-    clear(vertices);
-    clear(lengths);
+    fill(sizes, 0);
+    fill(vertices, 0);
+    fill(lengths, 0);
     answer
 }

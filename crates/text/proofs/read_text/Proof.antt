@@ -39,19 +39,19 @@ returns-2 : tie.Need-returns-2
 returns-2 c =
     rw (c .refusal2 .ensures) (after-long _ _ _ _ (counts (c .before .before)) (c .before .if2 .taken))
 
-clear-requires : tie.Need-clear-requires
-clear-requires c κs = search needs
+fill-requires : tie.Need-fill-requires
+fill-requires c κs = search needs
 
-clear-requires-2 : tie.Need-clear-requires-2
-clear-requires-2 c κs = search needs
+fill-requires-2 : tie.Need-fill-requires-2
+fill-requires-2 c κs = search needs
 
-clear-requires-3 : tie.Need-clear-requires-3
-clear-requires-3 c κs = search needs
+fill-requires-3 : tie.Need-fill-requires-3
+fill-requires-3 c κs = search needs
 
 read-plan-requires : tie.Need-read-plan-requires
 read-plan-requires c κs =
     let n = buffers-are _ _ _ (counts (c .before .before .before .before .before .before .before .before .before .before .before .before .before .before .before .before)) in
-    held-none _ _ _ (zeros (c .before .before .before .before .before .before .before .before .before .before .before .before .before .clear .ensures) (n .0)) (zeros (c .before .before .before .before .before .before .before .before .before .clear2 .ensures) (n .1)) (zeros (c .before .before .before .before .before .clear3 .ensures) (n .2))
+    held-none _ _ _ (zeros (c .before .before .before .before .before .before .before .before .before .before .before .before .before .fill .ensures) (n .0)) (zeros (c .before .before .before .before .before .before .before .before .before .fill2 .ensures) (n .1)) (zeros (c .before .before .before .before .before .fill3 .ensures) (n .2))
 
 same-length : tie.Need-same-length
 same-length c = search needs
@@ -67,14 +67,14 @@ returns-3 c =
     let p = c .before .before .before .before .before .before .before in
     after-done _ _ _ _ (counts (p .before .before .before .before .before .before .before .before .before .before .before .before .before .before .before .before .before)) (p .before .before .before .before .before .before .before .before .before .before .before .before .before .before .before .before .if2 .left) _ _ _ _ (p .read-plan .ensures) (c .if3 .taken)
 
-clear-requires-4 : tie.Need-clear-requires-4
-clear-requires-4 c κs = search needs
+fill-requires-4 : tie.Need-fill-requires-4
+fill-requires-4 c κs = search needs
 
-clear-requires-5 : tie.Need-clear-requires-5
-clear-requires-5 c κs = search needs
+fill-requires-5 : tie.Need-fill-requires-5
+fill-requires-5 c κs = search needs
 
-clear-requires-6 : tie.Need-clear-requires-6
-clear-requires-6 c κs = search needs
+fill-requires-6 : tie.Need-fill-requires-6
+fill-requires-6 c κs = search needs
 
 same-length-4 : tie.Need-same-length-4
 same-length-4 c = search needs
@@ -90,11 +90,11 @@ returns-4 c =
     let p = c .before .before .before .before .before .before .before .before .before .before .before .before .before .before .before .before .before .before .before in
     let fit = counts (p .before .before .before .before .before .before .before .before .before .before .before .before .before .before .before .before .before) in
     let n = buffers-are _ _ _ fit in
-    let sizes-long = zeros-long (c .before .before .before .before .before .before .before .before .before .before .before .before .before .before .before .before .before .before .sizes2 .given) (p .before .before .before .before .before .before .before .before .before .before .before .before .before .before .clear .ensures) (n .0) in
-    let vertices-long = zeros-long (c .before .before .before .before .before .before .before .before .before .before .before .before .before .before .before .before .vertices2 .given) (p .before .before .before .before .before .before .before .before .before .before .clear2 .ensures) (n .1) in
-    let lengths-long = zeros-long (c .before .before .before .before .before .before .before .before .before .before .before .before .before .before .lengths2 .given) (p .before .before .before .before .before .before .clear3 .ensures) (n .2) in
+    let sizes-long = zeros-long (c .before .before .before .before .before .before .before .before .before .before .before .before .before .before .before .before .before .before .sizes2 .given) (p .before .before .before .before .before .before .before .before .before .before .before .before .before .before .fill .ensures) (n .0) in
+    let vertices-long = zeros-long (c .before .before .before .before .before .before .before .before .before .before .before .before .before .before .before .before .vertices2 .given) (p .before .before .before .before .before .before .before .before .before .before .fill2 .ensures) (n .1) in
+    let lengths-long = zeros-long (c .before .before .before .before .before .before .before .before .before .before .before .before .before .before .lengths2 .given) (p .before .before .before .before .before .before .fill3 .ensures) (n .2) in
     after-out _ _ _ _ fit (p .before .before .before .before .before .before .before .before .before .before .before .before .before .before .before .before .if2 .left) _ _ _ _ _ _ _ (p .read-plan .ensures) (c .before .before .before .before .before .before .before .before .before .before .before .before .if3 .left)
-    (zeros (c .before .before .before .before .before .before .before .before .before .before .clear4 .ensures) sizes-long) (zeros (c .before .before .before .before .before .before .clear5 .ensures) vertices-long) (zeros (c .before .before .clear6 .ensures) lengths-long)
+    (zeros (c .before .before .before .before .before .before .before .before .before .before .fill4 .ensures) sizes-long) (zeros (c .before .before .before .before .before .before .fill5 .ensures) vertices-long) (zeros (c .before .before .fill6 .ensures) lengths-long)
 
 pub read-text-spec : {M : Type 1} → statement M
 read-text-spec =
@@ -105,17 +105,17 @@ read-text-spec =
     returns
     refusal-requires-2
     returns-2
-    clear-requires
-    clear-requires-2
-    clear-requires-3
+    fill-requires
+    fill-requires-2
+    fill-requires-3
     read-plan-requires
     same-length
     same-length-2
     same-length-3
     returns-3
-    clear-requires-4
-    clear-requires-5
-    clear-requires-6
+    fill-requires-4
+    fill-requires-5
+    fill-requires-6
     same-length-4
     same-length-5
     same-length-6

@@ -6,8 +6,8 @@ use native.Mathlib.Omega.{arith}
 use borrow.Author.Fill.{fill-none, fill-more}
 use borrow.Author.Needs.{needs}
 use lib.ListN.{length, drop, replicate, length-set, drop-of-length-le}
-use Rattle.engine.proofs.buffers.fill.Statement.{statement}
-use Rattle.engine.proofs.buffers.fill.Tie as tie
+use Rattle.buffers.proofs.fill.Statement.{statement}
+use Rattle.buffers.proofs.fill.Tie as tie
 
 abbrev Inv-loop : tie.InvT-loop
 Inv-loop buffer₀ x i₀ buffer i = (length buffer ≡ length buffer₀) × (i ≤ length buffer₀) × (buffer ≡ replicate i x ++ drop i buffer₀)
