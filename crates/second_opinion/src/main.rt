@@ -1,26 +1,47 @@
 // Compares the labelling with Dijkstra's algorithm, and sessions with a model that scans, on thousands of generated cases, and writes what was
 // found. Each case has a number, from which it is made again. A case that differs is named; none does in the file `stdout`.
-use cases::networks::Shape;
-use cases::networks::make_network;
-use cases::sessions::Extent;
-use cases::sessions::Outcome;
-use cases::sessions::make_session;
-use cases::sessions::run_plainly;
+// The plain algorithms share nothing with the code they are compared with, and every place is tested before it is read or written. All of it is
+// proved safe and ending; nothing of it is public.
+//   numbers     places, sums, random numbers
+//   judgement   which cause turns a network or a session away, all corners of every block compared
+//   dijkstra    Dijkstra's algorithm on the tables as they are
+//   model       the heap of one block: activated rows in order, extracted columns, floor; everything found by scanning
+//   labelling   the labelling by its rules, over a model for each block
+//   graphs      planar graphs and the distances in them
+//   tables      tables of lengths
+//   networks    networks, and damage done to them
+//   sessions    rectangles and calls, with what the model makes of them
+mod dijkstra;
+mod graphs;
+mod judgement;
+mod labelling;
+mod model;
+mod networks;
+mod numbers;
+mod sessions;
+mod tables;
+
+use crate::dijkstra::label_plainly;
+use crate::judgement::judge;
+use crate::labelling::Labelled;
+use crate::labelling::label_by_rules;
+use crate::model::count_new;
+use crate::model::part;
+use crate::networks::Shape;
+use crate::networks::make_network;
+use crate::numbers::get;
+use crate::numbers::largest;
+use crate::numbers::put;
+use crate::numbers::seed_of;
+use crate::numbers::sum;
+use crate::numbers::times;
+use crate::sessions::Extent;
+use crate::sessions::Outcome;
+use crate::sessions::make_session;
+use crate::sessions::run_plainly;
 use definitions::LabelAnswer;
 use definitions::SessionAnswer;
 use libc::STDOUT_FILENO;
-use opinion::dijkstra::label_plainly;
-use opinion::judgement::judge;
-use opinion::labelling::Labelled;
-use opinion::labelling::label_by_rules;
-use opinion::model::count_new;
-use opinion::model::part;
-use opinion::numbers::get;
-use opinion::numbers::largest;
-use opinion::numbers::put;
-use opinion::numbers::seed_of;
-use opinion::numbers::sum;
-use opinion::numbers::times;
 
 const NETWORKS: u32 = 2000;
 

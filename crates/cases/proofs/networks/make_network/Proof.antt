@@ -1,9 +1,0 @@
--- `cases::networks::make_network` is safe and ends.
-use borrow.Author.Needs.{needs}
-use Rattle.cases.proofs.networks.make_network.Statement.{statement}
-use Rattle.cases.proofs.networks.make_network.Tie as tie
-
-pub make-network-spec : {M : Type 1} → statement M
-make-network-spec =
-    tie.close (tie.spec (search needs) (search needs) (search needs) (search needs) (search needs) (search needs)
-    (search needs))

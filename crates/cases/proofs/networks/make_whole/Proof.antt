@@ -1,9 +1,0 @@
--- `cases::networks::make_whole` is safe and ends.
-use borrow.Author.Needs.{needs}
-use Rattle.cases.proofs.networks.make_whole.Statement.{statement}
-use Rattle.cases.proofs.networks.make_whole.Tie as tie
-
-pub make-whole-spec : {M : Type 1} → statement M
-make-whole-spec =
-    tie.close (tie.spec (search needs) (search needs) (search needs) (search needs) (search needs) (search needs)
-    (search needs) (search needs) (search needs))

@@ -1,0 +1,20 @@
+-- `second_opinion::dijkstra::label_plainly` is safe and ends: `n - reached` falls at each turn.
+use mathlib.Core.Path.{_≡_}
+use Prim.Native.Nat.{_-_}
+use borrow.Author.Needs.{needs}
+use lib.ListN.{length}
+use Rattle.second_opinion.proofs.dijkstra.label_plainly.Statement.{statement}
+use Rattle.second_opinion.proofs.dijkstra.label_plainly.Tie as tie
+
+abbrev Inv-loop : tie.InvT-loop
+Inv-loop n p sizes vertices lengths source distances₀ settled₀ reached₀ distances settled reached =
+    (length distances ≡ length distances₀) × (length settled ≡ 256)
+
+abbrev μ-loop : tie.MeasureT-loop
+μ-loop n p sizes vertices lengths source distances₀ settled₀ reached₀ distances settled reached = n - reached
+
+pub label-plainly-spec : {M : Type 1} → statement M
+label-plainly-spec =
+    tie.close (tie.spec Inv-loop μ-loop (search needs) (search needs) (search needs) (search needs) (search needs)
+    (search needs) (search needs) (search needs) (search needs) (search needs) (search needs) (search needs)
+    (search needs))

@@ -1,0 +1,18 @@
+-- `second_opinion::graphs::lay_chords` is safe and ends: `32 - turn` falls at each turn.
+use mathlib.Core.Path.{_≡_}
+use Prim.Native.Nat.{_-_}
+use borrow.Author.Needs.{needs}
+use lib.ListN.{length}
+use Rattle.second_opinion.proofs.graphs.lay_chords.Statement.{statement}
+use Rattle.second_opinion.proofs.graphs.lay_chords.Tie as tie
+
+abbrev Inv-loop : tie.InvT-loop
+Inv-loop seed₀ graph₀ ends₀ count₀ turn₀ seed graph ends count turn = (length graph ≡ length graph₀) × (length ends ≡ 64)
+
+abbrev μ-loop : tie.MeasureT-loop
+μ-loop seed₀ graph₀ ends₀ count₀ turn₀ seed graph ends count turn = 32 - turn
+
+pub lay-chords-spec : {M : Type 1} → statement M
+lay-chords-spec =
+    tie.close (tie.spec Inv-loop μ-loop (search needs) (search needs) (search needs) (search needs) (search needs)
+    (search needs) (search needs) (search needs))

@@ -1,0 +1,18 @@
+-- `second_opinion::graphs::lay_grid` is safe and ends: `49 - u` falls at each turn.
+use mathlib.Core.Path.{_≡_}
+use Prim.Native.Nat.{_-_}
+use borrow.Author.Needs.{needs}
+use lib.ListN.{length}
+use Rattle.second_opinion.proofs.graphs.lay_grid.Statement.{statement}
+use Rattle.second_opinion.proofs.graphs.lay_grid.Tie as tie
+
+abbrev Inv-loop : tie.InvT-loop
+Inv-loop seed₀ graph₀ u₀ seed graph u = length graph ≡ length graph₀
+
+abbrev μ-loop : tie.MeasureT-loop
+μ-loop seed₀ graph₀ u₀ seed graph u = 49 - u
+
+pub lay-grid-spec : {M : Type 1} → statement M
+lay-grid-spec =
+    tie.close (tie.spec Inv-loop μ-loop (search needs) (search needs) (search needs) (search needs) (search needs)
+    (search needs) (search needs) (search needs))

@@ -1,0 +1,18 @@
+-- `second_opinion::graphs::shorten` is safe and ends: `n - i` falls at each turn.
+use mathlib.Core.Path.{_≡_}
+use Prim.Native.Nat.{_-_}
+use borrow.Author.Needs.{needs}
+use lib.ListN.{length}
+use Rattle.second_opinion.proofs.graphs.shorten.Statement.{statement}
+use Rattle.second_opinion.proofs.graphs.shorten.Tie as tie
+
+abbrev Inv-loop : tie.InvT-loop
+Inv-loop graph₀ n k i₀ graph i = length graph ≡ length graph₀
+
+abbrev μ-loop : tie.MeasureT-loop
+μ-loop graph₀ n k i₀ graph i = n - i
+
+pub shorten-spec : {M : Type 1} → statement M
+shorten-spec =
+    tie.close (tie.spec Inv-loop μ-loop (search needs) (search needs) (search needs) (search needs) (search needs)
+    (search needs) (search needs))

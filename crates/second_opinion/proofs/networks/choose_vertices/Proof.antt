@@ -1,0 +1,19 @@
+-- `second_opinion::networks::choose_vertices` is safe and ends: `m - i` falls at each turn.
+use mathlib.Core.Path.{_≡_}
+use Prim.Native.Nat.{_-_}
+use borrow.Author.Needs.{needs}
+use lib.ListN.{length}
+use Rattle.second_opinion.proofs.networks.choose_vertices.Statement.{statement}
+use Rattle.second_opinion.proofs.networks.choose_vertices.Tie as tie
+
+abbrev Inv-loop : tie.InvT-loop
+Inv-loop seed₀ n k m vertices₀ pool₀ i₀ seed vertices pool i = (length vertices ≡ length vertices₀) × (length pool ≡ 256)
+
+abbrev μ-loop : tie.MeasureT-loop
+μ-loop seed₀ n k m vertices₀ pool₀ i₀ seed vertices pool i = m - i
+
+pub choose-vertices-spec : {M : Type 1} → statement M
+choose-vertices-spec =
+    tie.close (tie.spec Inv-loop μ-loop (search needs) (search needs) (search needs) (search needs) (search needs)
+    (search needs) (search needs) (search needs) (search needs) (search needs) (search needs) (search needs)
+    (search needs) (search needs) (search needs))

@@ -1,0 +1,18 @@
+-- `second_opinion::tables::fill_apart` is safe and ends: `m - i` falls at each turn.
+use mathlib.Core.Path.{_≡_}
+use Prim.Native.Nat.{_-_}
+use borrow.Author.Needs.{needs}
+use lib.ListN.{length}
+use Rattle.second_opinion.proofs.tables.fill_apart.Statement.{statement}
+use Rattle.second_opinion.proofs.tables.fill_apart.Tie as tie
+
+abbrev Inv-loop : tie.InvT-loop
+Inv-loop places m table₀ i₀ table i = length table ≡ length table₀
+
+abbrev μ-loop : tie.MeasureT-loop
+μ-loop places m table₀ i₀ table i = m - i
+
+pub fill-apart-spec : {M : Type 1} → statement M
+fill-apart-spec =
+    tie.close (tie.spec Inv-loop μ-loop (search needs) (search needs) (search needs) (search needs) (search needs)
+    (search needs) (search needs))

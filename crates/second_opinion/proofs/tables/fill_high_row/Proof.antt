@@ -1,0 +1,19 @@
+-- `second_opinion::tables::fill_high_row` is safe and ends: `m - j` falls at each turn.
+use mathlib.Core.Path.{_≡_}
+use Prim.Native.Nat.{_-_}
+use borrow.Author.Needs.{needs}
+use lib.ListN.{length}
+use Rattle.second_opinion.proofs.tables.fill_high_row.Statement.{statement}
+use Rattle.second_opinion.proofs.tables.fill_high_row.Tie as tie
+
+abbrev Inv-loop : tie.InvT-loop
+Inv-loop weights steps m i table₀ j₀ table j = length table ≡ length table₀
+
+abbrev μ-loop : tie.MeasureT-loop
+μ-loop weights steps m i table₀ j₀ table j = m - j
+
+pub fill-high-row-spec : {M : Type 1} → statement M
+fill-high-row-spec =
+    tie.close (tie.spec Inv-loop μ-loop (search needs) (search needs) (search needs) (search needs) (search needs)
+    (search needs) (search needs) (search needs) (search needs) (search needs) (search needs) (search needs)
+    (search needs))
