@@ -15,13 +15,13 @@ use lib.ListN.{length, length-append}
 use Rattle.definitions.specs.declared.ReadAnswer.{ReadAnswer}
 use Rattle.definitions.specs.declared.LabelAnswer.{LabelAnswer}
 use Rattle.definitions.specs.Limits.{maxVertices, sizePlaces, vertexPlaces, lengthPlaces, labelPlaces}
-use Rattle.definitions.specs.Lists.{upFrom, firstCause}
+use Rattle.definitions.specs.Lists.{upFrom, firstCause, Every}
 use Rattle.definitions.specs.Blocks.{blocks}
 use Rattle.definitions.specs.Labelling.{State, labelOf, labelling, heldLabel, labels}
 use Rattle.definitions.specs.Text.{Read, refused, value, require, Plan, readPlan, judgeLength, readText, sizesOf, verticesOf, lengthsOf}
 use Rattle.definitions.specs.Entries.{AfterRead, AfterLabel, hasPlaces, judgeBuffers, readRefusal, afterRead, reading, judgeLabelling, labelAnswer, labelNetwork, listingLine, refusalLine, stateListing, planListing, listing}
 use Rattle.basics.specs.Tests.{Truth, holds, fails, truth}
-use Rattle.basics.specs.Lists.{Every, every-imp}
+use Rattle.basics.specs.Lists.{every-imp}
 use Rattle.basics.specs.Causes.{bounds-in}
 use Rattle.labelling_laws.specs.Loop.{labels-read}
 use Rattle.text.specs.Reading.{bind-value, require-value}

@@ -16,7 +16,7 @@ use native.Mathlib.Omega.{arith}
 use borrow.Author.Tests.{eq-eqb, ne-eqb, not-true}
 use lib.Dec.{eqb}
 use lib.ListN.{getD, length, set, length-append, length-replicate}
-use Rattle.definitions.specs.Lists.{all, count, every, mem, different, total, padded}
+use Rattle.definitions.specs.Lists.{all, count, every, Every, mem, different, total, padded}
 use Rattle.basics.specs.Tests.{clash, and-left, and-right, and-both, or-left, or-right, Truth, holds, fails, truth, Equal, equal, differ, equality}
 
 -- ---- a computed test
@@ -53,10 +53,6 @@ all-fails p n i l h = go (truth (all p n))
     go (fails t) = t
 
 -- ---- a property of all members
-
-abbrev pub Every : {A : Type 0} → (A → Type 0) → List A → Type 0
-Every P [] = Unit {0}
-Every P (x ∷ xs) = P x × Every P xs
 
 pub every-is : {A : Type 0} (p : A → Bool) (P : A → Type 0) → ((x : A) → p x ≡ true → P x) → (xs : List A) → every p xs ≡ true → Every P xs
 unfolding every

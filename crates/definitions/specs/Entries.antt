@@ -59,9 +59,20 @@ callAt calls j = record { kind = getD calls (3 * j) 0; row = getD calls (3 * j +
 unfoldable pub callsOf : List ℕ → ℕ → List Call
 callsOf calls count = map (callAt calls) (upFrom 0 count)
 
+-- the three numbers of an answer
+abbrev pub answerNumbers : Answer → List ℕ
+answerNumbers a = a .code ∷ a .column ∷ a .total ∷ []
+
 -- "answers 192 (unused places 0)"
 unfoldable pub answersOf : List Answer → List ℕ
-answersOf answers = padded answerPlaces 0 (flatMap (λ a. a .code ∷ a .column ∷ a .total ∷ []) answers)
+answersOf answers = padded answerPlaces 0 (flatMap answerNumbers answers)
+
+-- answer j of the answer buffer, and its first `count` answers
+unfoldable pub answerAt : List ℕ → ℕ → Answer
+answerAt answers j = record { code = getD answers (3 * j) 0; column = getD answers (3 * j + 1) 0; total = getD answers (3 * j + 2) 0 }
+
+unfoldable pub answersIn : List ℕ → ℕ → List Answer
+answersIn answers count = map (answerAt answers) (upFrom 0 count)
 
 -- the three numbers of an interval
 abbrev pub intervalNumbers : Interval → List ℕ

@@ -13,11 +13,10 @@ use native.Mathlib.Nat.{le-refl}
 use native.Mathlib.Omega.{arith}
 use borrow.Author.Tests.{ne-eqb}
 use Rattle.definitions.specs.Limits.{sum}
-use Rattle.definitions.specs.Lists.{mem}
+use Rattle.definitions.specs.Lists.{mem, Every}
 use Rattle.definitions.specs.Network.{Rectangle}
 use Rattle.definitions.specs.Blocks.{Monge}
 use Rattle.definitions.specs.Model.{nobody, by, Model, least, through, parent, available, isActivated, activate, Interval, interval, runs, intervals, sameInterval, isKept, countNew}
-use Rattle.basics.specs.Lists.{Every}
 use Rattle.basics.specs.Tests.{clash, split-at, Order, less, more, order}
 use Rattle.heap_laws.specs.Least.{beats, wins, loses}
 use Rattle.heap_laws.specs.Parents.{parent-snoc, parent-activated, available-parent}

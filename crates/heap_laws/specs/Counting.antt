@@ -4,7 +4,7 @@
 --   countNew-append                        of two lists
 --   countNew-tail countNew-same            none of a part, none of the same
 --   isKept-elsewhere rising-elsewhere      an interval is not in a list that has none that begins where it does
---   Distinct runs-distinct                 runs stand each once
+--   runs-distinct                          runs stand each once
 --   balance                                inserted and kept before = removed and kept after
 use mathlib.Core.Path.{_≡_, refl, sym, ap}
 use mathlib.Core.Bool.{true, false, cond, _&&_, _||_, or-true, or-assoc, and-false}
@@ -16,8 +16,8 @@ use native.Mathlib.Omega.{arith}
 use borrow.Author.Tests.{eq-eqb, ne-eqb, eqb-true}
 use lib.Dec.{eqb}
 use lib.ListN.{length}
-use Rattle.definitions.specs.Model.{Best, Interval, interval, runs, sameInterval, isKept, countNew, Rising}
-use Rattle.basics.specs.Lists.{Every}
+use Rattle.definitions.specs.Lists.{Every}
+use Rattle.definitions.specs.Model.{Best, Interval, interval, runs, sameInterval, isKept, Distinct, countNew, Rising}
 use Rattle.basics.specs.Tests.{clash, and-left, and-right, Truth, holds, fails, truth}
 use Rattle.heap_laws.specs.Runs.{runs-rising}
 
@@ -65,10 +65,6 @@ pub countNew-same : (xs : List Interval) → countNew xs xs ≡ 0
 countNew-same xs = countNew-tail [] xs
 
 -- ---- each once
-
-abbrev pub Distinct : List Interval → Type 0
-Distinct [] = Unit {0}
-Distinct (v ∷ vs) = (isKept v vs ≡ false) × Distinct vs
 
 -- an interval that begins at another column
 abbrev pub Elsewhere : ℕ → Interval → Type 0

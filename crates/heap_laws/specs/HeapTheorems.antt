@@ -5,9 +5,9 @@
 --   the calls        one-more refused-changes-nothing
 --   the model        parents-rise won-one-range floors
 --   activate         activation-edits activation-wins-nothing activation-first
---   extract          extraction-none extraction-some extraction-edits
+--   extract          extraction-none extraction-some extractions-least extraction-edits
 --   the intervals    intervals-are-longest-runs longest-runs-are-intervals intervals-once
---   the counts       inserted-removed-kept extraction-inserts activation-inserts insertions-few
+--   the counts       inserted-removed-kept extraction-inserts activation-inserts insertions-allowed insertions-few
 --   the places read  used-places
 use mathlib.Core.Path.{_≡_}
 use mathlib.Core.Bool.{true, false}
@@ -17,11 +17,10 @@ use Prim.Native.Nat.{ℕ, suc, pred, _+_, _*_, _≤_, _<_}
 use native.Mathlib.Omega.{arith}
 use lib.ListN.{length}
 use Rattle.definitions.specs.Limits.{sum}
-use Rattle.definitions.specs.Lists.{mem}
+use Rattle.definitions.specs.Lists.{mem, Every}
 use Rattle.definitions.specs.Network.{Rectangle}
 use Rattle.definitions.specs.Blocks.{Monge, isMonge}
-use Rattle.definitions.specs.Model.{by, parent, available, extract, Model, Interval, interval, intervals, isKept, Call, coded, judge, step, Trace, extend, trace, Rising}
-use Rattle.basics.specs.Lists.{Every}
+use Rattle.definitions.specs.Model.{by, LeastLeft, parent, available, extract, Model, fresh, Interval, interval, intervals, isKept, Distinct, Call, coded, judge, step, Trace, extend, trace, Extractions, allowances, Rising}
 use Rattle.heap_laws.specs.Inequality as inequality
 use Rattle.heap_laws.specs.Least.{from-is, upTo-is}
 use Rattle.heap_laws.specs.Parents as parents
@@ -29,12 +28,12 @@ use Rattle.heap_laws.specs.Won.{won, won-between, Range, SomeRange, rang
 use Rattle.heap_laws.specs.Sound.{trace-sound, step-floor, won-available}
 use Rattle.heap_laws.specs.Calls.{Activates, trace-snoc, trace-activate}
 use Rattle.heap_laws.specs.Runs.{runs-rising, IsRun, Longest, runs-longest, runs-length}
-use Rattle.heap_laws.specs.Counting.{Distinct, runs-distinct}
+use Rattle.heap_laws.specs.Counting.{runs-distinct}
 use Rattle.heap_laws.specs.Edits.{before, from, run-kept}
 use Rattle.heap_laws.specs.Activate as activation
 use Rattle.heap_laws.specs.Extract as extraction
-use Rattle.heap_laws.specs.Extract.{LeastLeft}
 use Rattle.heap_laws.specs.Traces as traces
+use Rattle.heap_laws.specs.Answers.{trace-allowed, trace-extractions}
 use Rattle.heap_laws.specs.Agree as agree
 
 -- ---- the rectangle
@@ -133,6 +132,10 @@ module _ (e : Rectangle) (rows cols : ℕ) (ks : List Call) where
       × (step e rows cols model k ≡ record { model = extract model (by c s); answer = record { code = 0; column = c; total = s } })
   extraction-some k h some = extraction.extraction-some e rows cols model k h some
 
+  -- Over all calls: each extraction answers none exactly if no interval is left where its turn comes, else the least that is left.
+  pub extractions-least : Monge e rows cols → Extractions e rows cols fresh ks (done .answers)
+  extractions-least ok = trace-extractions e rows cols ok ks
+
   -- The column is cut out of its interval.
   pub extraction-edits : (c s : ℕ) → c < cols
       → intervals e cols (extract model (by c s)) ≡ before c kept ++ from (suc c) kept
@@ -169,6 +172,10 @@ module _ (e : Rectangle) (rows cols : ℕ) (ks : List Call) where
   pub activation-inserts : Monge e rows cols → (k : Call) → more k .inserted ≤ done .inserted + 3
   unfolding extend
   activation-inserts ok k = rw trace-snoc (omega (arith, traces.step-new e rows cols ok model k (trace-sound e rows cols ks)))
+
+  -- Over all calls: at most three by each activation that is done, two by each extraction that hands out a column, none by any other call.
+  pub insertions-allowed : Monge e rows cols → done .inserted ≤ allowances ks (done .answers)
+  insertions-allowed ok = trace-allowed e rows cols ok ks
 
   -- Over all calls at most three for each activated row and two for each extracted column.
   pub insertions-few : Monge e rows cols → done .inserted ≤ 3 * length (model .activated) + 2 * length (model .extracted)

@@ -13,6 +13,7 @@ pub mod Edits
 pub mod Activate
 pub mod Extract
 pub mod Traces
+pub mod Answers
 pub mod Agree
 pub mod Reading
 pub mod HeapTheorems

@@ -16,12 +16,12 @@ use borrow.Author.Tests.{eq-eqb, ne-eqb}
 use lib.Dec.{eqb}
 use lib.ListN.{getD, length}
 use Rattle.definitions.specs.Limits.{sum}
-use Rattle.definitions.specs.Lists.{mem}
+use Rattle.definitions.specs.Lists.{mem, Every}
 use Rattle.definitions.specs.Network.{Rectangle}
 use Rattle.definitions.specs.Blocks.{Monge}
 use Rattle.definitions.specs.Model.{Best, nobody, by, lesser, least, Activation, Model, through, parent, available, isActivated}
 use Rattle.basics.specs.Tests.{clash, or-left, or-right, split-at, Order, less, more, order, Truth, holds, fails, truth}
-use Rattle.basics.specs.Lists.{Every, every-at}
+use Rattle.basics.specs.Lists.{every-at}
 use Rattle.heap_laws.specs.Inequality.{crossing}
 use Rattle.heap_laws.specs.Least.{lesser-nobody, lesser-assoc}
 

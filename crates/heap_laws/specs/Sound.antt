@@ -4,10 +4,11 @@
 --   extracted-lost won-available       a new row wins no extracted column
 --   step-sound extend-sound trace-sound   every call keeps it, so it holds after any list of calls
 --   step-floor                         the floor never falls
+--   reached-..                         so it holds of every model that calls reach
 --   activated-few extracted-few        at most as many as rows, as columns
 use mathlib.Core.Path.{_≡_, refl, _∙_}
 use mathlib.Core.Bool.{true, false, cond, _||_}
-use mathlib.Core.List.{List, [], _∷_, map}
+use mathlib.Core.List.{List, [], _∷_, _++_, map}
 use Prim.Native.Nat.{ℕ, _≤_, _<_}
 use native.Mathlib.Nat.{le-refl}
 use native.Mathlib.Omega.{arith}
@@ -15,15 +16,15 @@ use borrow.Author.Tests.{eqb-true}
 use lib.Dec.{eqb}
 use lib.ListN.{length, length-map}
 use Rattle.definitions.specs.Limits.{maxLabel, sum}
-use Rattle.definitions.specs.Lists.{mem}
+use Rattle.definitions.specs.Lists.{mem, Every}
 use Rattle.definitions.specs.Network.{Rectangle}
-use Rattle.definitions.specs.Model.{Best, nobody, by, lesser, least, Activation, Model, fresh, through, parent, available, leastFrom, isActivated, Call, activate, extract, step, Trace, extend, trace}
+use Rattle.definitions.specs.Model.{Best, nobody, by, lesser, least, Activation, Model, fresh, through, parent, available, leastFrom, isActivated, Call, activate, extract, step, Trace, extend, traceFrom, trace, Reached}
 use Rattle.basics.specs.Tests.{clash, or-left, Truth, holds, fails, truth}
-use Rattle.basics.specs.Lists.{Every, every-snoc, every-map, Different, mem-snoc, different-snoc, at-most}
+use Rattle.basics.specs.Lists.{every-snoc, every-map, Different, mem-snoc, different-snoc, at-most}
 use Rattle.heap_laws.specs.Least.{From, UpTo, from-lesser, upTo-lesser, upTo-le, upTo-beats}
 use Rattle.heap_laws.specs.Parents.{Once, once-snoc, parent-snoc}
 use Rattle.heap_laws.specs.Won.{won}
-use Rattle.heap_laws.specs.Calls.{cases, Cases, activates, extracts, refuses, step-activate, step-extract, step-refused, trace-induction}
+use Rattle.heap_laws.specs.Calls.{cases, Cases, activates, extracts, refuses, step-activate, step-extract, step-refused, trace-snoc, trace-induction}
 use Rattle.heap_laws.specs.Found.{Found, found-is}
 
 pub record Sound (e : Rectangle) (rows cols : ℕ) (m : Model) : Type 0 where
@@ -138,6 +139,20 @@ module _ (e : Rectangle) (rows cols : ℕ) where
 
   pub trace-sound : (ks : List Call) → Sound e rows cols ((trace e rows cols ks) .model)
   trace-sound = trace-induction e rows cols (λ t. Sound e rows cols (t .model)) extend-sound fresh-sound
+
+-- ---- a model that calls reach
+
+module _ (e : Rectangle) (rows cols : ℕ) where
+  pub reached-fresh : Reached e rows cols fresh
+  unfolding trace traceFrom
+  reached-fresh = ([], refl)
+
+  pub reached-step : (m : Model) (k : Call) → Reached e rows cols m → Reached e rows cols ((step e rows cols m k) .model)
+  unfolding extend
+  reached-step m k r = (r .0 ++ k ∷ [], rw (trace-snoc e rows cols (r .0) k, r .1))
+
+  pub reached-sound : (m : Model) → Reached e rows cols m → Sound e rows cols m
+  reached-sound m r = rw (r .1) at (trace-sound e rows cols (r .0))
 
 -- ---- how many
 

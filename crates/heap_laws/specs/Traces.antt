@@ -12,7 +12,7 @@ use native.Mathlib.Omega.{arith}
 use lib.ListN.{length, length-append}
 use Rattle.definitions.specs.Network.{Rectangle}
 use Rattle.definitions.specs.Blocks.{Monge}
-use Rattle.definitions.specs.Model.{Best, nobody, by, available, leastFrom, Model, fresh, activate, extract, intervals, countNew, judge, Call, coded, step, Trace, extend, trace}
+use Rattle.definitions.specs.Model.{Best, nobody, by, available, leastFrom, Model, fresh, activate, extract, intervals, countNew, judge, Call, Answer, coded, extractionOf, step, allowance, Trace, extend, trace}
 use Rattle.heap_laws.specs.Calls.{Cases, activates, extracts, refuses, cases, step-activate, step-extract, step-refused, trace-induction}
 use Rattle.heap_laws.specs.Found.{Found, found-is}
 use Rattle.heap_laws.specs.Sound.{Sound, fresh-sound, extend-sound}
@@ -27,7 +27,7 @@ extend-refused e rows cols t k h = rw (step-refused e rows cols (t .model) k h, 
 
 -- ---- inserted = removed + kept
 
-call-balance : (e : Rectangle) (cols : ℕ) (m m′ : Model)
+pub call-balance : (e : Rectangle) (cols : ℕ) (m m′ : Model)
     → countNew (intervals e cols m′) (intervals e cols m) + length (intervals e cols m) ≡ countNew (intervals e cols m) (intervals e cols m′) + length (intervals e cols m′)
 unfolding intervals
 call-balance e cols m m′ = balance _ _ (runs-distinct (available e m′) 0 cols) (runs-distinct (available e m) 0 cols)
@@ -85,6 +85,24 @@ module _ (e : Rectangle) (rows cols : ℕ) where
             let f = extract-few m (leastFrom (available e m) 0 cols) (found-is (available e m) 0 cols) in
             rw (step-extract e rows cols m k q) (omega (arith, f .0, f .1))
         go (refuses q) = rw (step-refused e rows cols m k q) (omega (arith, countNew-same (intervals e cols m)))
+
+    -- what one call inserts is within its allowance
+    pub step-allowed : (m : Model) (k : Call) → Sound e rows cols m
+        → countNew (intervals e cols ((step e rows cols m k) .model)) (intervals e cols m) ≤ allowance k (step e rows cols m k .answer)
+    unfolding allowance extract
+    step-allowed m k g = go (cases rows m k)
+      where
+        none : (a : Answer) → countNew (intervals e cols m) (intervals e cols m) ≤ allowance k a
+        none a = omega (arith, countNew-same (intervals e cols m))
+
+        found : (x : Best) → Found (available e m) 0 cols x → k .kind ≡ 2 → countNew (intervals e cols (extract m x)) (intervals e cols m) ≤ allowance k (extractionOf x)
+        found nobody f q = none (coded 50)
+        found (by c s) f q = rw q (extract-new e cols m (by c s) f)
+
+        go : Cases rows m k → countNew (intervals e cols ((step e rows cols m k) .model)) (intervals e cols m) ≤ allowance k (step e rows cols m k .answer)
+        go (activates a) = rw (step-activate e rows cols m k a, a .kind-is) (activate-new e rows cols ok m g (k .row) (k .label) (a .row-in) (a .row-new) (a .high))
+        go (extracts q) = rw (step-extract e rows cols m k q) (found (leastFrom (available e m) 0 cols) (found-is (available e m) 0 cols) q)
+        go (refuses q) = rw (step-refused e rows cols m k q) (none (coded (judge rows m k)))
 
     pub trace-few : (ks : List Call) → Few (trace e rows cols ks)
     trace-few ks = (trace-induction e rows cols (λ t. Sound e rows cols (t .model) × Few t)

@@ -12,11 +12,11 @@ use native.Mathlib.Omega.{arith}
 use borrow.Author.Tests.{lt-ltb}
 use lib.ListN.{length}
 use Rattle.definitions.specs.Limits.{sum}
+use Rattle.definitions.specs.Lists.{Every}
 use Rattle.definitions.specs.Network.{Rectangle}
 use Rattle.definitions.specs.Blocks.{Monge}
 use Rattle.definitions.specs.Model.{Best, nobody, by, Activation, parent}
 use Rattle.basics.specs.Tests.{clash, below-suc, split-at, Order, less, more, order, Truth, holds, fails, truth}
-use Rattle.basics.specs.Lists.{Every}
 use Rattle.heap_laws.specs.Inequality.{crossing-later, crossing-earlier}
 use Rattle.heap_laws.specs.Least.{beats, beats-is}
 use Rattle.heap_laws.specs.Parents.{rowAt, labelAt, sumAt, IsParent, parent-is, parent-nobody, row-in}

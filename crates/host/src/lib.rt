@@ -4,7 +4,7 @@ ghost use mathlib.Core.Path.{_≡_};
 ghost use Rattle.definitions.specs.Entries.{reading, labelNetwork, session, writeField};
 ghost use Rattle.answer.specs.Listing.{writeListing};
 ghost use Rattle.checks.specs.Lent.{judgeLent};
-ghost use Rattle.engine.specs.Promises.{Kept, Plain};
+ghost use Rattle.engine.specs.Promises.Entries.{PlainSession, PlainLabels};
 ghost use Rattle.host.specs.Entry.{fieldEntry};
 use bounds::Cause;
 use definitions::Field;
@@ -73,7 +73,7 @@ pub extern "C" fn rabdzhine_run_session(
     intervals: &mut [u32],
 ) -> SessionAnswer
     ensures served { λ r. ⌜ record { answer = r; answers = now (answers .exit); intervals = now (intervals .exit) } ≡ session rows cols count (now (lengths .entry)) (now (calls .entry)) (now (answers .entry)) (now (intervals .entry)) ⌝ }
-    ensures kept { λ r. ⌜ (r .number ≡ 0 → Kept rows cols count (now (lengths .entry)) (now (calls .entry)) r (now (intervals .exit))) ⌝ }
+    ensures plain { λ r. ⌜ (r .number ≡ 0 → PlainSession rows cols count (now (lengths .entry)) (now (calls .entry)) r (now (answers .exit)) (now (intervals .exit))) ⌝ }
 {
     engine::run_session(rows, cols, count, lengths, calls, answers, intervals)
 }
@@ -89,7 +89,7 @@ pub extern "C" fn rabdzhine_label_network(
     labels: &mut [u32],
 ) -> LabelAnswer
     ensures labelled { λ r. ⌜ record { answer = r; labels = now (labels .exit) } ≡ labelNetwork n p (now (sizes .entry)) (now (vertices .entry)) (now (lengths .entry)) source (now (labels .entry)) ⌝ }
-    ensures plain { λ r. ⌜ (r .number ≡ 0 → Plain n p (now (sizes .entry)) (now (vertices .entry)) (now (lengths .entry)) source r (now (labels .exit))) ⌝ }
+    ensures plain { λ r. ⌜ (r .number ≡ 0 → PlainLabels n p (now (sizes .entry)) (now (vertices .entry)) (now (lengths .entry)) source r (now (labels .exit))) ⌝ }
 {
     engine::label_network(n, p, sizes, vertices, lengths, source, labels)
 }

@@ -10,12 +10,12 @@ use borrow.Author.Tests.{leb-true}
 use lib.Dec.{eqb, leb}
 use lib.ListN.{getD, length}
 use Rattle.definitions.specs.Limits.{maxSize, maxLength}
-use Rattle.definitions.specs.Lists.{every, different, within}
+use Rattle.definitions.specs.Lists.{every, different, within, Every}
 use Rattle.definitions.specs.Network.{Piece, entry, sizeOf}
 use Rattle.definitions.specs.Blocks.{blocksOf, passes}
 use Rattle.definitions.specs.Judgement.{judgeBounds, judgeSize, judgeVertices, judgeRow, judgeRows, judgeBlocks, judgeSource, judgePiece}
 use Rattle.basics.specs.Tests.{and-left, and-right}
-use Rattle.basics.specs.Lists.{Every, every-is, Different, different-is}
+use Rattle.basics.specs.Lists.{every-is, Different, different-is}
 use Rattle.basics.specs.Causes.{no-cause, test-holds, within-is}
 use Rattle.labelling_laws.specs.Places.{at-place}
 

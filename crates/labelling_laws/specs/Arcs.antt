@@ -12,10 +12,10 @@ use native.Mathlib.Omega.{arith}
 use borrow.Author.Tests.{ne-eqb}
 use lib.ListN.{getD, length}
 use Rattle.definitions.specs.Limits.{maxSize}
-use Rattle.definitions.specs.Lists.{mem, total, upFrom}
+use Rattle.definitions.specs.Lists.{mem, total, upFrom, Every}
 use Rattle.definitions.specs.Network.{Piece, sizeOf, noPiece, ArcIn, Arc, Walk}
 use Rattle.definitions.specs.Blocks.{Window, windowsOf, rowsOf, logarithm, Block, blockOf, blocksOf, blocks, noBlock, passes, weight}
-use Rattle.basics.specs.Lists.{Every, every-at, every-append, Any, any-at, at-any, any-left, any-right, any-cases, any-map, any-back, total-append, Different}
+use Rattle.basics.specs.Lists.{every-at, every-append, Any, any-at, at-any, any-left, any-right, any-cases, any-map, any-back, total-append, Different}
 use Rattle.heap_laws.specs.Inequality.{isMonge-is}
 use Rattle.splits.specs.Windows.{Inside, windows-inside, pair-once, spanned, Spans, rows-few, cols-few}
 use Rattle.basics.specs.Places.{different-at}

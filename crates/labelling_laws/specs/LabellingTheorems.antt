@@ -18,14 +18,13 @@ use Prim.Native.Nat.{ℕ, suc, _*_, _≤_, _<_}
 use lib.Dec.{eqb}
 use lib.ListN.{getD, length}
 use Rattle.definitions.specs.Limits.{maxLabel, labelPlaces, unreached}
-use Rattle.definitions.specs.Lists.{count, all, every, mem, different, upFrom, downTo, within, firstCause}
+use Rattle.definitions.specs.Lists.{count, all, every, mem, different, upFrom, downTo, within, firstCause, Every}
 use Rattle.definitions.specs.Network.{Piece, entry, sizeOf, Distance}
 use Rattle.definitions.specs.Blocks.{splits, splitsOf, windows, windowsOf, rowsOf, columnsOf, corners, isMonge, blockOf, blocksOf, blocks, passes, weight}
 use Rattle.definitions.specs.Model.{nobody, intervals}
 use Rattle.definitions.specs.Labelling.{labelOf, chosen, steps, start, labelling, reached, extractions, insertions, labels}
 use Rattle.definitions.specs.Judgement.{judgeBounds, judgeSize, judgeVertices, judgeRow, judgeRows, judgeBlocks, judgeSource, judgePiece, piecesOf}
 use Rattle.definitions.specs.Entries.{judgeLabelling}
-use Rattle.basics.specs.Lists.{Every}
 use Rattle.labelling_laws.specs.Acceptance.{Accepted}
 use Rattle.labelling_laws.specs.Ends as ends
 use Rattle.labelling_laws.specs.Loop.{chosen-none}

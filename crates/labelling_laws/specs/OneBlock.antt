@@ -16,13 +16,13 @@ use borrow.Author.Tests.{eqb-true, lt-leb, le-ltb}
 use lib.Dec.{eqb}
 use lib.ListN.{getD, length, length-append}
 use Rattle.definitions.specs.Limits.{maxLength, maxLabel}
-use Rattle.definitions.specs.Lists.{mem}
+use Rattle.definitions.specs.Lists.{mem, Every}
 use Rattle.definitions.specs.Network.{Rectangle}
 use Rattle.definitions.specs.Blocks.{Monge, Block}
 use Rattle.definitions.specs.Model.{Best, nobody, by, lesser, least, Activation, Model, through, parent, available, leastFrom, isActivated, judge, step, activate, extract, Trace, extend}
 use Rattle.definitions.specs.Labelling.{BlockState, activation, extraction, freshBlock, apply, leastOf, placeOf, activateAt, activateVertex, Settled, labelOf}
 use Rattle.basics.specs.Tests.{clash, Truth, holds, fails, truth, Equal, equal, differ, equality}
-use Rattle.basics.specs.Lists.{Every, every-snoc, Different, mem-snoc}
+use Rattle.basics.specs.Lists.{every-snoc, Different, mem-snoc}
 use Rattle.heap_laws.specs.Least.{From, from-lesser}
 use Rattle.heap_laws.specs.Parents.{parent-snoc, available-parent}
 use Rattle.heap_laws.specs.Found.{Lowest, found-is}

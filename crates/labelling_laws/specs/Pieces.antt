@@ -14,12 +14,12 @@ use borrow.Author.Tests.{eq-eqb, ne-eqb}
 use lib.Dec.{eqb}
 use lib.ListN.{getD, length, length-map}
 use Rattle.definitions.specs.Limits.{maxLabel, labelPlaces, unreached}
-use Rattle.definitions.specs.Lists.{count, mem}
+use Rattle.definitions.specs.Lists.{count, mem, Every}
 use Rattle.definitions.specs.Network.{Piece, Distance, distance, none}
 use Rattle.definitions.specs.Blocks.{blocks, weight}
 use Rattle.definitions.specs.Labelling.{Settled, State, labelOf, columns, labelling, reached, extractions, insertions, heldLabel, labels}
 use Rattle.basics.specs.Tests.{Equal, equal, differ, equality}
-use Rattle.basics.specs.Lists.{Every, every-map, Different, counted, count-same}
+use Rattle.basics.specs.Lists.{every-map, Different, counted, count-same}
 use Rattle.basics.specs.Causes.{bounds-in, source-in}
 use Rattle.labelling_laws.specs.Labels.{Status, settled, unsettled, status, labelled-mem, unlabelled}
 use Rattle.labelling_laws.specs.Steps.{Setting}

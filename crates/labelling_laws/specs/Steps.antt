@@ -16,12 +16,12 @@ use borrow.Author.Tests.{eq-eqb, ne-eqb}
 use lib.ListN.{getD, length, set, length-append, length-map, List·getD-map}
 use lib.Seq.{map-set-same}
 use Rattle.definitions.specs.Limits.{maxVertices, maxLength, maxLabel, sum}
-use Rattle.definitions.specs.Lists.{mem}
+use Rattle.definitions.specs.Lists.{mem, Every}
 use Rattle.definitions.specs.Network.{Rectangle, Walk, stay, then}
 use Rattle.definitions.specs.Blocks.{Block, noBlock}
 use Rattle.definitions.specs.Model.{Best, nobody, by, least, Model, parent, available, leastFrom}
 use Rattle.definitions.specs.Labelling.{BlockState, extraction, freshBlock, apply, leastOf, activateVertex, Settled, State, labelOf, settleAs, settle, noBlockState, chosen, placeIn, extractFrom, advance, steps, start}
-use Rattle.basics.specs.Lists.{Every, every-at, every-set, every-snoc, every-imp, every-map, every-all, map-same, map-back, Different, different-snoc, at-most}
+use Rattle.basics.specs.Lists.{every-at, every-set, every-snoc, every-imp, every-map, every-all, map-same, map-back, Different, different-snoc, at-most}
 use Rattle.heap_laws.specs.Least.{From, from-le}
 use Rattle.heap_laws.specs.Parents.{available-parent, parent-row, parent-activated, parent-sum, rowLabel}
 use Rattle.heap_laws.specs.Found.{Found, Lowest, found-is}

@@ -18,12 +18,12 @@ use lib.Dec.{leb}
 use lib.ListN.{getD, length, take, drop, length-map, List·getD-append}
 use lib.Seq.{getD-append-add, take-suc, take-add, take-length, drop-drop}
 use Rattle.definitions.specs.Limits.{maxPieces, maxSize, vertexPlaces, rowPlaces, tablePlaces}
-use Rattle.definitions.specs.Lists.{all, every, total, upFrom, padded}
+use Rattle.definitions.specs.Lists.{all, every, total, upFrom, padded, Every}
 use Rattle.definitions.specs.Network.{noPiece}
 use Rattle.definitions.specs.Blocks.{splits, splitsOf, windows, windowsOf, noBlock, blockOf, blocks}
 use Rattle.definitions.specs.Judgement.{pieceAt, piecesOf}
 use Rattle.basics.specs.Tests.{split-at}
-use Rattle.basics.specs.Lists.{all-at, Every, every-is, every-at, length-padded}
+use Rattle.basics.specs.Lists.{all-at, every-is, every-at, length-padded}
 use Rattle.splits.specs.Windows.{Inside, windows-inside}
 use Rattle.monge.specs.Copies.{block-entry}
 use Rattle.monge.specs.Matrix.{at, reversedRow, reversed, rowsIn}

@@ -8,9 +8,8 @@ use mathlib.Core.Logic.{_≢_}
 use Prim.Native.Nat.{ℕ, _*_, _≤_, _<_}
 use lib.ListN.{getD, length}
 use Rattle.definitions.specs.Limits.{maxSize}
-use Rattle.definitions.specs.Lists.{total, upFrom}
+use Rattle.definitions.specs.Lists.{total, upFrom, Every}
 use Rattle.definitions.specs.Blocks.{splitsOf, allSplits, windowsOf, logarithm}
-use Rattle.basics.specs.Lists.{Every}
 use Rattle.splits.specs.Table.{noSplit}
 use Rattle.splits.specs.Halving.{listed, counted, Halved, halved}
 use Rattle.splits.specs.Windows.{tally, pair-once, Inside, windows-inside, rows-few, cols-few, Logarithm, logarithm-is}

@@ -7,8 +7,8 @@ use mathlib.Core.List.{List, [], _∷_, _++_, map, append-assoc}
 use Prim.Native.Nat.{ℕ, zero, suc, _+_, _*_}
 use native.Mathlib.Omega.{arith}
 use lib.ListN.{getD, length, length-append}
-use Rattle.basics.specs.Lists.{Every, every-append}
-use Rattle.definitions.specs.Lists.{total, firstCause}
+use Rattle.basics.specs.Lists.{every-append}
+use Rattle.definitions.specs.Lists.{total, firstCause, Every}
 use Rattle.definitions.specs.Network.{Piece, sizeOf}
 use Rattle.definitions.specs.Judgement.{judgeBounds, judgeSize, judgeVertices, judgeRow, judgeRows, judgeBlocks, judgeSource, judgePiece, judgeFrom, judgeNetwork}
 use Rattle.definitions.specs.Text.{fieldBytes, value, require, readField, readFields, judgeLineEnd, readLine, lineBytes, readRows, readPiece, pieceBytes, readPieces, Plan, judgeEnd, readBody, readPlan, sizesOf, verticesOf, lengthsOf}

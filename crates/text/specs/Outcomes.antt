@@ -4,9 +4,8 @@ use mathlib.Core.Logic.{_≢_}
 use mathlib.Core.List.{List, flatMap}
 use Prim.Native.Nat.{ℕ, _+_, _*_, _≤_}
 use lib.ListN.{length}
-use Rattle.basics.specs.Lists.{Every}
 use Rattle.definitions.specs.Limits.{rowPlaces, tablePlaces}
-use Rattle.definitions.specs.Lists.{padded}
+use Rattle.definitions.specs.Lists.{padded, Every}
 use Rattle.definitions.specs.Text.{Read, refused, value, lineBytes}
 
 -- 0, and a value was read that what is left shows; or the number of the refusal

@@ -17,11 +17,11 @@ use lib.ListN.{length, take, drop, set, replicate, length-append, length-map}
 use lib.Seq.{drop-at}
 use borrow.Author.Tests.{le-leb}
 use Rattle.basics.specs.Buffers.{flatMap-snoc, put, put-padded, set-padded}
-use Rattle.basics.specs.Lists.{Every, every-imp, every-snoc, length-padded, total-append}
+use Rattle.basics.specs.Lists.{every-imp, every-snoc, length-padded, total-append}
 use Rattle.definitions.specs.declared.Field.{Field}
 use Rattle.definitions.specs.declared.Field.the-variants.{Number, Malformed}
 use Rattle.definitions.specs.Limits.{sizePlaces, vertexPlaces, lengthPlaces, rowPlaces, tablePlaces}
-use Rattle.definitions.specs.Lists.{padded, total, within}
+use Rattle.definitions.specs.Lists.{padded, total, within, Every}
 use Rattle.definitions.specs.Network.{Piece, sizeOf}
 use Rattle.definitions.specs.Text.{refused, value, require, fieldAt, fieldCause, readField, readLine, lineBytes, readRows, readPiece, pieceBytes, readPieces, sizesOf, verticesOf, tableOf, lengthsOf}
 use Rattle.definitions.specs.Judgement.{judgeSize, judgeVertices, judgeBlocks}

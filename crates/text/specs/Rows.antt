@@ -14,9 +14,9 @@ use lib.ListN.{getD, length, take, drop, replicate, length-append, List·getD-eq
 use lib.Seq.{take-at, drop-at}
 use Rattle.basics.specs.Tests.{Order, less, more, order, Truth, holds, fails, truth}
 use Rattle.basics.specs.Buffers.{flatMap-snoc, put, put-padded}
-use Rattle.basics.specs.Lists.{Every, every-snoc, length-padded}
+use Rattle.basics.specs.Lists.{every-snoc, length-padded}
 use Rattle.definitions.specs.Limits.{rowPlaces, tablePlaces}
-use Rattle.definitions.specs.Lists.{padded, upFrom}
+use Rattle.definitions.specs.Lists.{padded, upFrom, Every}
 use Rattle.definitions.specs.Judgement.{judgeRow}
 use Rattle.definitions.specs.Text.{Read, refused, value, _>>=_, require, readFields, judgeLineEnd, readLine, lineBytes, readRows}
 use Rattle.text.specs.Outcomes.{Came, RowsLeft}

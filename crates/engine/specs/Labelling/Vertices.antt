@@ -14,12 +14,13 @@ use native.Mathlib.Omega.{arith}
 use lib.ListN.{getD, length, set}
 use lib.Seq.{getD-set-same}
 use Rattle.definitions.specs.Limits.{maxVertices, maxPieces, maxSize, sizePlaces, rowPlaces}
+use Rattle.definitions.specs.Lists.{Every}
 use Rattle.definitions.specs.Network.{Piece, sizeOf, noPiece}
 use Rattle.definitions.specs.Blocks.{windowsOf, Block, noBlock, blockOf, blocks}
 use Rattle.definitions.specs.Model.{isActivated}
 use Rattle.definitions.specs.Labelling.{BlockState, placeOf, activateVertex, noBlockState}
 use Rattle.basics.specs.Tests.{split-at}
-use Rattle.basics.specs.Lists.{Every, every-at}
+use Rattle.basics.specs.Lists.{every-at}
 use Rattle.splits.specs.Windows.{Inside, windows-inside}
 use Rattle.basics.specs.Pieces.{block-rows}
 use Rattle.layout.specs.Layout.{placeCount, placeNumber, rowIn, rowCountIn, maxBlocks}

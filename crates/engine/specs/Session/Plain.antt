@@ -1,0 +1,49 @@
+-- What an accepted session returns and leaves, in plain terms, from its equation with the definition.
+use mathlib.Core.Path.{_≡_, refl, sym, ap, _∙_}
+use mathlib.Core.List.{List, map}
+use Prim.Native.Nat.{ℕ}
+use lib.ListN.{length, length-map}
+use Rattle.definitions.specs.declared.SessionAnswer.{SessionAnswer}
+use Rattle.definitions.specs.Lists.{padded, upFrom}
+use Rattle.definitions.specs.Model.{Call, trace}
+use Rattle.definitions.specs.Entries.{AfterSession, rectangleOf, judgeSession, callAt, callsOf, answersOf, answersIn, session}
+use Rattle.basics.specs.Sequences.{length-upFrom}
+use Rattle.basics.specs.Tests.{Equal, equal, differ, equality}
+use Rattle.heap_laws.specs.Answers.{trace-each, trace-allowed, trace-extractions}
+use Rattle.heap_laws.specs.HeapTheorems.{intervals-once, inserted-removed-kept}
+use Rattle.engine.specs.Promises.Entries.{PlainSession}
+use Rattle.engine.specs.Session.Judged.{Accepted, accepted}
+use Rattle.engine.specs.Session.Threes.{answers-back}
+
+module _ (rows cols count : ℕ) (lengths calls answers₀ intervals₀ : List ℕ) where
+  abbrev ks : List Call
+  ks = callsOf calls count
+
+  -- the answers stand in the buffer
+  answers-are : Accepted rows cols count lengths calls answers₀ intervals₀ → answersIn (answersOf (trace (rectangleOf lengths) rows cols ks .answers)) count ≡ trace (rectangleOf lengths) rows cols ks .answers
+  unfolding answersOf padded callsOf
+  answers-are a =
+      let e : length (map (callAt calls) (upFrom 0 count)) ≡ count = length-map (upFrom 0 count) (callAt calls) ∙ length-upFrom 0 count in
+      let n = trace-each (rectangleOf lengths) rows cols (a .monge) ks ∙ e in
+      ap (answersIn (answersOf (trace (rectangleOf lengths) rows cols ks .answers))) (sym n) ∙ answers-back (trace (rectangleOf lengths) rows cols ks .answers) _
+
+  pub plain-session : (r : SessionAnswer) (answers after : List ℕ) → record { answer = r; answers = answers; intervals = after } ≡ session rows cols count lengths calls answers₀ intervals₀
+      → r .number ≡ 0 → PlainSession rows cols count lengths calls r answers after
+  unfolding session
+  plain-session r answers after e done = go (equality (judgeSession rows cols count lengths calls answers₀ intervals₀) 0)
+    where
+      go : Equal (judgeSession rows cols count lengths calls answers₀ intervals₀) 0 → PlainSession rows cols count lengths calls r answers after
+      go (differ t q) = absurd (q (sym (ap (λ (x : AfterSession). x .answer .number) (rw t at e)) ∙ done))
+      go (equal t q) =
+          let g = accepted rows cols count lengths calls answers₀ intervals₀ _ refl q in
+          let a = ap (λ (x : AfterSession). x .answer) (rw t at e) in
+          let s : answersIn answers count ≡ trace (rectangleOf lengths) rows cols ks .answers = rw (ap (λ (x : AfterSession). x .answers) (rw t at e)) (answers-are g) in
+          record {
+            kept = _;
+            written = ap (λ (x : AfterSession). x .intervals) (rw t at e);
+            kept-are = refl;
+            rising = intervals-once (rectangleOf lengths) rows cols ks .0;
+            balanced = rw a (inserted-removed-kept (rectangleOf lengths) rows cols ks);
+            few = rw (a, s) (trace-allowed (rectangleOf lengths) rows cols (g .monge) ks);
+            least = rw s (trace-extractions (rectangleOf lengths) rows cols (g .monge) ks);
+          }
