@@ -4,3 +4,4 @@ pub mod Output
 pub mod Lines
 pub mod Refusals
 pub mod Answers
+pub mod Front

@@ -1,8 +1,8 @@
 // The listing of a text: what the program `labels` writes for the bytes that it reads.
 ghost use mathlib.Core.Path.{_≡_};
-ghost use mathlib.Core.List.{[], _∷_, _++_};
-ghost use Prim.Native.Nat.{_+_, _*_, _≤_};
-ghost use lib.ListN.{length};
+ghost use mathlib.Core.List.{List, [], _∷_, _++_};
+ghost use Prim.Native.Nat.{ℕ, _+_, _*_, _≤_};
+ghost use lib.ListN.{length, take};
 ghost use Rattle.definitions.specs.Limits.{maxVertices, labelPlaces};
 ghost use Rattle.definitions.specs.Text.{lineEnd};
 ghost use Rattle.definitions.specs.Entries.{listingLine, refusalLine};
@@ -11,6 +11,10 @@ ghost use Rattle.answer.specs.Output.{Put};
 ghost use Rattle.answer.specs.Lines.{vertexLines};
 use bounds::Line;
 use bounds::Network;
+use bounds::Text;
+
+// The places of the buffer that a program reads its input into: one byte more than a text may have shows that it is too long.
+pub const INPUT_PLACES: usize = Text::MAX_BYTES + 1;
 
 // The places of the output, room for the longest listing: a line of four fields, and one of two for each vertex.
 pub const LISTING_BYTES: usize = 4 * Line::FIELD_BYTES
@@ -104,4 +108,18 @@ pub fn write_listing(text: &[u8], out: &mut [u8]) -> usize
     let counts = [source, done.reached, done.extracted, done.inserted];
     let next = put_fields(out, 0, &counts);
     put_vertices(out, next, n, &labels)
+}
+
+// Writes the listing of an input, however long it is, as `write_listing` does for a text. The first `read` bytes of the buffer are the
+// front of the input: all of it, or as much as the buffer has places. What stands behind them does not count.
+pub fn list_input(buffer: &[u8; INPUT_PLACES], read: usize, out: &mut [u8]) -> usize
+    ensures listed { λ r. ⌜ record { written = r; out = now (out .exit) } ≡ writeListing (take read (now (buffer .entry))) (now (out .entry)) ⌝ }
+    ensures whole { λ r. ⌜ ((input : List ℕ) → take read (now (buffer .entry)) ≡ take (length (now (buffer .entry))) input → record { written = r; out = now (out .exit) } ≡ writeListing input (now (out .entry))) ⌝ }
+{
+    let mut end = read;
+    if end > INPUT_PLACES {
+        end = INPUT_PLACES;
+    }
+    let bytes: &[u8] = buffer;
+    write_listing(&bytes[..end], out)
 }

@@ -13,26 +13,20 @@ slice-aggregate-read-full c = search needs
 read-full-requires : tie.Need-read-full-requires
 read-full-requires c κs = search needs
 
-array-share-prefix-text : tie.Need-array-share-prefix-text
-array-share-prefix-text c = search needs
+slice-aggregate-list-input : tie.Need-slice-aggregate-list-input
+slice-aggregate-list-input c = search needs
 
-slice-aggregate-write-listing : tie.Need-slice-aggregate-write-listing
-slice-aggregate-write-listing c = search needs
-
-slice-aggregate-write-listing-2 : tie.Need-slice-aggregate-write-listing-2
-slice-aggregate-write-listing-2 c = search needs
-
-write-listing-requires : tie.Need-write-listing-requires
-write-listing-requires c κs = search needs
+list-input-requires : tie.Need-list-input-requires
+list-input-requires c κs = search needs
 
 array-share-prefix-out : tie.Need-array-share-prefix-out
 array-share-prefix-out c =
-    let fits = written-fits _ _ _ _ (c .before .write-listing .ensures) in
+    let fits = written-fits _ _ _ _ (c .before .list-input .ensures .0) in
     omega arith
 
 slice-aggregate-write-all : tie.Need-slice-aggregate-write-all
 slice-aggregate-write-all c =
-    let fits = written-fits _ _ _ _ (c .before .before .write-listing .ensures) in
+    let fits = written-fits _ _ _ _ (c .before .before .list-input .ensures .0) in
     sym (length-take-le _ _ (omega arith))
 
 write-all-requires : tie.Need-write-all-requires
@@ -47,10 +41,8 @@ main-spec =
     (tie.spec
     slice-aggregate-read-full
     read-full-requires
-    array-share-prefix-text
-    slice-aggregate-write-listing
-    slice-aggregate-write-listing-2
-    write-listing-requires
+    slice-aggregate-list-input
+    list-input-requires
     array-share-prefix-out
     slice-aggregate-write-all
     write-all-requires
