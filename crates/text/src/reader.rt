@@ -6,7 +6,7 @@ ghost use mathlib.Core.Path.{_≡_};
 ghost use Rattle.definitions.specs.Text.{fieldAt, fieldAnswer};
 use definitions::Field;
 
-pub struct Reader<'a> {
+struct Reader<'a> {
     text: &'a [u8],
     at: usize,
 }
@@ -27,7 +27,7 @@ impl<'a> Reader<'a> {
 }
 
 // The field at a place of a text, read through the struct.
-pub fn field_at(text: &[u8], at: usize) -> Field
+pub(crate) fn field_at(text: &[u8], at: usize) -> Field
     ensures { λ r. ⌜ fieldAnswer r ≡ fieldAt (now (text .entry)) at ⌝ }
 {
     Reader::new(text, at).field()

@@ -44,20 +44,20 @@ use denote.Triple.Walked.{says, Stays, stay-none, walkOf, goes-none, Walks, ends
 use denote.Exit.{yes}
 use denote.Triple.Clauses.{ensured, lasts}
 use Rattle.definitions.specs.Text.{FieldAnswer, fieldAt, fieldAnswer}
-use Rattle.reader.specs.declared.Reader.{Reader}
+use Rattle.text.specs.declared.reader.Reader.{Reader}
 use Rattle.definitions.specs.declared.Field.{Field}
-use Rattle.reader.proofs.Reader as T
-use Rattle.reader.proofs.Reader.Laws as T′
+use Rattle.text.proofs.reader.Reader as T
+use Rattle.text.proofs.reader.Reader.Laws as T′
 use Rattle.definitions.proofs.Field as S
 use Rattle.definitions.proofs.Field.Laws as S′
 use Rattle.fields.proofs.read_field as read
 use Rattle.fields.proofs.read_field.Symbol as read-def
 use Rattle.fields.proofs.read_field.Symbol.{name as #fields·read-field}
 use Rattle.fields.proofs.read_field.Met as read-thm
-use Rattle.reader.proofs.Reader.field.Key.{name as #reader·field}
-use Rattle.reader.proofs.Reader.field as field
-use Rattle.reader.proofs.Reader.field.Statement as stated
-use Rattle.reader.proofs.Reader.field.Code as code
+use Rattle.text.proofs.reader.Reader.field.Key.{name as #reader·field}
+use Rattle.text.proofs.reader.Reader.field as field
+use Rattle.text.proofs.reader.Reader.field.Statement as stated
+use Rattle.text.proofs.reader.Reader.field.Code as code
 
 -- the struct's type, over the signature's lifetimes
 abbrev B : Lfts 1 → RattleType

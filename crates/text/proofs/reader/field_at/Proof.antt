@@ -39,24 +39,24 @@ use denote.Triple.Walked.{says, Stays, stay-none, stay-none-slice, walkOf, goes-
 use denote.Exit.{yes}
 use denote.Triple.Clauses.{ensured, lasts}
 use Rattle.definitions.specs.Text.{FieldAnswer, fieldAt, fieldAnswer}
-use Rattle.reader.specs.declared.Reader.{Reader}
+use Rattle.text.specs.declared.reader.Reader.{Reader}
 use Rattle.definitions.specs.declared.Field.{Field}
-use Rattle.reader.proofs.Reader as T
-use Rattle.reader.proofs.Reader.Laws as T′
+use Rattle.text.proofs.reader.Reader as T
+use Rattle.text.proofs.reader.Reader.Laws as T′
 use Rattle.definitions.proofs.Field as S
 use Rattle.definitions.proofs.Field.Laws as S′
-use Rattle.reader.proofs.Reader.new as new
-use Rattle.reader.proofs.Reader.new.Symbol as new-def
-use Rattle.reader.proofs.Reader.new.Symbol.{name as #reader·new}
-use Rattle.reader.proofs.Reader.new.Met as new-thm
-use Rattle.reader.proofs.Reader.field as field
-use Rattle.reader.proofs.Reader.field.Symbol as field-def
-use Rattle.reader.proofs.Reader.field.Symbol.{name as #reader·field}
-use Rattle.reader.proofs.Reader.field.Met as field-thm
-use Rattle.reader.proofs.field_at.Key.{name as #reader·field-at}
-use Rattle.reader.proofs.field_at as field-at
-use Rattle.reader.proofs.field_at.Statement as stated
-use Rattle.reader.proofs.field_at.Code as code
+use Rattle.text.proofs.reader.Reader.new as new
+use Rattle.text.proofs.reader.Reader.new.Symbol as new-def
+use Rattle.text.proofs.reader.Reader.new.Symbol.{name as #reader·new}
+use Rattle.text.proofs.reader.Reader.new.Met as new-thm
+use Rattle.text.proofs.reader.Reader.field as field
+use Rattle.text.proofs.reader.Reader.field.Symbol as field-def
+use Rattle.text.proofs.reader.Reader.field.Symbol.{name as #reader·field}
+use Rattle.text.proofs.reader.Reader.field.Met as field-thm
+use Rattle.text.proofs.reader.field_at.Key.{name as #reader·field-at}
+use Rattle.text.proofs.reader.field_at as field-at
+use Rattle.text.proofs.reader.field_at.Statement as stated
+use Rattle.text.proofs.reader.field_at.Code as code
 
 -- the struct's type, over the signature's lifetimes
 abbrev B : Lfts 1 → RattleType
@@ -164,5 +164,5 @@ field-at-spec 𝓤 H 𝓜 𝓖 𝓡 =
     entered 𝓤 H (tripleOf 𝓤 H (𝓖 .A) field-at.signature (field-at.spec 𝓤 H (𝓖 .A) (𝓜 .mem) (𝓡 .run)))
     (tables 𝓤 H 𝓜 𝓡 code.env .C) (tables 𝓤 H 𝓜 𝓡 code.env .Λ) #reader·field-at code.function (code.unfolded 𝓤 H 𝓜 𝓡)
     (field-at-meets 𝓤 H (𝓖 .A) (givenOf 𝓤 H 𝓜 𝓖) (𝓜 .mem) (𝓡 .run) (tablesOf 𝓤 H 𝓜 (tables 𝓤 H 𝓜 𝓡 code.env))
-    (cited 𝓤 H (New 𝓤 H (𝓖 .A) (𝓜 .mem) (𝓡 .run)) 𝓜 𝓡 code.env #reader·new new-def.routine code.calls-reader·Reader·new (new-thm.met 𝓤 H 𝓜 𝓖 𝓡))
-    (cited 𝓤 H (FieldOf 𝓤 H (𝓖 .A) (𝓜 .mem) (𝓡 .run)) 𝓜 𝓡 code.env #reader·field field-def.routine code.calls-reader·Reader·field (field-thm.met 𝓤 H 𝓜 𝓖 𝓡)))
+    (cited 𝓤 H (New 𝓤 H (𝓖 .A) (𝓜 .mem) (𝓡 .run)) 𝓜 𝓡 code.env #reader·new new-def.routine code.calls-text·reader·Reader·new (new-thm.met 𝓤 H 𝓜 𝓖 𝓡))
+    (cited 𝓤 H (FieldOf 𝓤 H (𝓖 .A) (𝓜 .mem) (𝓡 .run)) 𝓜 𝓡 code.env #reader·field field-def.routine code.calls-text·reader·Reader·field (field-thm.met 𝓤 H 𝓜 𝓖 𝓡)))
