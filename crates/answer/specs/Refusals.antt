@@ -10,14 +10,12 @@ use Prim.Native.Nat.{ℕ, zero, suc, _+_, _*_, _≤_, _<_}
 use native.Mathlib.Omega.{arith}
 use borrow.Author.Tests.{lt-ltb}
 use lib.Dec.{eqb, leb}
-use lib.ListN.{getD, length}
-use Rattle.definitions.specs.declared.Field.{Field}
-use Rattle.definitions.specs.declared.Field.the-variants.{Number, Malformed}
+use lib.ListN.{getD, length, take, drop}
 use Rattle.definitions.specs.Limits.{maxVertices, maxPieces, maxSize, maxLength, maxText}
 use Rattle.definitions.specs.Lists.{every, different, total, within}
 use Rattle.definitions.specs.Blocks.{blocksOf, passes}
 use Rattle.definitions.specs.Judgement.{judgeBounds, judgeSize, judgeVertices, judgeRow, judgeBlocks, judgeSource}
-use Rattle.definitions.specs.Text.{blank, lineEnd, fieldBytes, fieldAt, fieldCause, Read, refused, value, _>>=_, require, readField, readFields, judgeLineEnd, readLine, lineBytes, readRows, readPiece, pieceBytes, readPieces, judgeEnd, readBody, readPlan, judgeLength, readText}
+use Rattle.definitions.specs.Text.{blank, lineEnd, fieldBytes, skipBlanks, isNumeral, FieldAnswer, noField, fieldOf, fieldAt, Read, refused, value, _>>=_, require, readField, readFields, judgeLineEnd, readLine, lineBytes, readRows, readPiece, pieceBytes, readPieces, judgeEnd, readBody, readPlan, judgeLength, readText}
 use Rattle.definitions.specs.Entries.{digitsOf, decimal, refusalLine}
 
 abbrev pub Low : {A : Type 0} → Read A → Type 0
@@ -40,12 +38,14 @@ either false k h = h
 -- ---- the parts of a text
 
 low-field : (text : List ℕ) (at : ℕ) → Low (readField text at)
-unfolding readField
-low-field text at = low-require (fieldCause (fieldAt text at)) _ (cause (fieldAt text at)) tt
+unfolding readField fieldAt fieldOf
+low-field text at =
+    let digits = skipBlanks (take fieldBytes (drop at text)) in
+    low-require ((fieldAt text at) .number) _ (or-none (leb (at + fieldBytes) (length text)) _ (or-none (isNumeral digits) _ (omega arith))) tt
   where
-    cause : (f : Field) → fieldCause f ≤ 8
-    cause (Number x) = omega arith
-    cause Malformed = omega arith
+    or-none : (b : Bool) (f : FieldAnswer) → f .number ≤ 8 → (cond b f noField) .number ≤ 8
+    or-none true f h = h
+    or-none false f h = omega arith
 
 low-fields : (text : List ℕ) (at k : ℕ) → Low (readFields text at k)
 unfolding readFields

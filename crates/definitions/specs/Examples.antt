@@ -12,7 +12,7 @@ use Rattle.definitions.specs.Blocks.{splits, splitsOf, windows, windowsO
 use Rattle.definitions.specs.Model.{lesser, least, through, parent, available, placed, leastFrom, adjoins, joined, prepend, prependColumn, runs, intervals, sameInterval, isKept, countNew, isActivated, judge, activate, extract, step, extend, traceFrom, trace}
 use Rattle.definitions.specs.Labelling.{freshBlock, apply, leastOf, placeOf, activateAt, activateVertex, labelOf, settleAs, settle, chosen, placeIn, extractFrom, advance, steps, start, columns, labelling, reached, extractions, insertions, heldLabel, labels}
 use Rattle.definitions.specs.Judgement.{judgeBounds, judgeSize, judgeVertices, judgeRow, judgeRows, judgeBlocks, judgeSource, judgePiece, pieceAt, piecesOf, judgeFrom, judgeNetwork}
-use Rattle.definitions.specs.Text.{Read, refused, value, fieldCause, Plan, isDigit, skipBlanks, isNumeral, numeralValue, fieldOf, fieldAt, readField, readFields, judgeLineEnd, readLine, lineBytes, readRows, readPiece, pieceBytes, readPieces, judgeEnd, readBody, readPlan, judgeLength, readText, sizesOf, verticesOf, tableOf, lengthsOf}
+use Rattle.definitions.specs.Text.{Read, refused, value, Plan, isDigit, skipBlanks, isNumeral, numeralValue, fieldOf, fieldAt, readField, readFields, judgeLineEnd, readLine, lineBytes, readRows, readPiece, pieceBytes, readPieces, judgeEnd, readBody, readPlan, judgeLength, readText, sizesOf, verticesOf, tableOf, lengthsOf}
 use Rattle.definitions.specs.Entries.{AfterRead, AfterLabel, AfterSession, hasPlaces, judgeBuffers, afterRead, reading, judgeLabelling, labelAnswer, labelNetwork, rectangleOf, judgeSession, callAt, callsOf, answersOf, intervalsOf, session, digitsOf, decimal, rightJustified, nineColumns, listingLine, refusalLine, stateListing, planListing, listing}
 
 -- ---- the texts
@@ -106,7 +106,7 @@ run (read text) = filled (readInto text)
 run (lent text) = listed (labelLent (readInto text))
 run (block text number) = blockIn number (readText text)
 run (calls row0 row1 ks) = left (runSession row0 row1 ks)
-run (field s) = refuses (fieldCause (fieldOf (bytes s)))
+run (field s) = refuses ((fieldOf (bytes s)) .number)
 
 -- ---- the table
 

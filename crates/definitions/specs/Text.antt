@@ -1,5 +1,6 @@
 -- Document 01, "Text layout": from bytes to a refusal or a plan, in the stated order of judgement.
---   fieldOf fieldAt fieldCause            six bytes: a number, or no field (3)
+--   FieldAnswer fieldOf fieldAt           six bytes: 0 and a number, or no field (3)
+--   fieldAnswer                           the number and the value of each case of the code's answer
 --   Read require                          refused by a number, or read
 --   readFields readLine                   a line's layout: its fields and one byte 10
 --   readRows readPiece readPieces         districts, judged as they are read
@@ -49,24 +50,31 @@ unfoldable pub numeralValue : ℕ → List ℕ → ℕ
 numeralValue x [] = x
 numeralValue x (d ∷ ds) = numeralValue (10 * x + (d - 48)) ds
 
+-- what reading a field answers: 0 and its value; or 3, "text not in the layout", and 0
+pub record FieldAnswer : Type 0 where
+  pub number : ℕ
+  pub value : ℕ
+
+abbrev pub aField : ℕ → FieldAnswer
+aField x = record { number = 0; value = x }
+
+abbrev pub noField : FieldAnswer
+noField = record { number = 3; value = 0 }
+
 -- "blanks, then decimal digits"
-unfoldable pub fieldOf : List ℕ → Field
+unfoldable pub fieldOf : List ℕ → FieldAnswer
 fieldOf bytes =
     let digits = skipBlanks bytes in
-    cond (isNumeral digits) (Number (numeralValue 0 digits)) Malformed
+    cond (isNumeral digits) (aField (numeralValue 0 digits)) noField
 
 -- the field at a place of the text; where fewer than six bytes are left there is none
-unfoldable pub fieldAt : List ℕ → ℕ → Field
-fieldAt text at = cond (leb (at + fieldBytes) (length text)) (fieldOf (take fieldBytes (drop at text))) Malformed
+unfoldable pub fieldAt : List ℕ → ℕ → FieldAnswer
+fieldAt text at = cond (leb (at + fieldBytes) (length text)) (fieldOf (take fieldBytes (drop at text))) noField
 
--- the number of the cause, and the value, of each case
-abbrev pub fieldCause : Field → ℕ
-fieldCause (Number x) = 0
-fieldCause Malformed = 3
-
-abbrev pub fieldValue : Field → ℕ
-fieldValue (Number x) = x
-fieldValue Malformed = 0
+-- "For each answer that is an enum, a definition gives this paper's number and values for each of the enum's cases"
+abbrev pub fieldAnswer : Field → FieldAnswer
+fieldAnswer (Number x) = aField x
+fieldAnswer Malformed = noField
 
 -- ---- reading
 
@@ -88,8 +96,8 @@ require (suc k) = refused (suc k)
 -- the number at a place, else 3
 unfoldable pub readField : List ℕ → ℕ → Read ℕ
 readField text at = do
-  _ ← require (fieldCause (fieldAt text at))
-  value (fieldValue (fieldAt text at))
+  _ ← require ((fieldAt text at) .number)
+  value ((fieldAt text at) .value)
 
 -- k fields, one after the other: "Fields need no blank between them"
 unfoldable pub readFields : List ℕ → ℕ → ℕ → Read (List ℕ)

@@ -2,7 +2,7 @@
 use mathlib.Core.Bool.{cond}
 use mathlib.Core.List.{List, [], _∷_}
 use Prim.Native.Nat.{ℕ}
-use Rattle.definitions.specs.Text.{fieldAt, fieldCause, fieldValue}
+use Rattle.definitions.specs.Text.{fieldAt}
 use Rattle.definitions.specs.Entries.{hasPlaces}
 
 -- the number returned, and what stands in the buffer
@@ -14,5 +14,5 @@ pub record AfterField : Type 0 where
 unfoldable pub fieldEntry : List ℕ → ℕ → List ℕ → AfterField
 fieldEntry text at value =
     cond (hasPlaces 1 value)
-    (record { number = fieldCause (fieldAt text at); value = fieldValue (fieldAt text at) ∷ [] })
+    (record { number = (fieldAt text at) .number; value = (fieldAt text at) .value ∷ [] })
     (record { number = 1; value = value })

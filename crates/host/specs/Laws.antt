@@ -6,8 +6,7 @@ use Prim.Native.Nat.{ℕ}
 use native.Mathlib.Omega.{arith}
 use borrow.Author.Tests.{eq-eqb, ne-eqb}
 use lib.ListN.{length, set}
-use Rattle.definitions.specs.declared.Field.{Field}
-use Rattle.definitions.specs.Text.{fieldAt, fieldCause, fieldValue}
+use Rattle.definitions.specs.Text.{FieldAnswer, fieldAt}
 use Rattle.definitions.specs.Entries.{hasPlaces}
 use Rattle.host.specs.Entry.{fieldEntry}
 
@@ -20,7 +19,7 @@ one-place [] x h = absurd (omega arith)
 one-place (y ∷ []) x h = refl
 one-place (y ∷ z ∷ ys) x h = absurd (omega arith)
 
-pub field-left : (text : List ℕ) (at : ℕ) (value : List ℕ) (f : Field) → length value ≡ 1 → fieldAt text at ≡ f
-    → record { number = fieldCause f; value = set value 0 (fieldValue f) } ≡ fieldEntry text at value
+pub field-left : (text : List ℕ) (at : ℕ) (value : List ℕ) (f : FieldAnswer) → length value ≡ 1 → f ≡ fieldAt text at
+    → record { number = f .number; value = set value 0 (f .value) } ≡ fieldEntry text at value
 unfolding fieldEntry hasPlaces
-field-left text at value f h e = rw (one-place value (fieldValue f) h, eq-eqb _ _ h, e)
+field-left text at value f h e = rw (one-place value (f .value) h, eq-eqb _ _ h, ← e)

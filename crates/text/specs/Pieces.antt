@@ -18,12 +18,10 @@ use lib.Seq.{drop-at}
 use borrow.Author.Tests.{le-leb}
 use Rattle.basics.specs.Buffers.{flatMap-snoc, put, put-padded, set-padded}
 use Rattle.basics.specs.Lists.{every-imp, every-snoc, length-padded, total-append}
-use Rattle.definitions.specs.declared.Field.{Field}
-use Rattle.definitions.specs.declared.Field.the-variants.{Number, Malformed}
 use Rattle.definitions.specs.Limits.{sizePlaces, vertexPlaces, lengthPlaces, rowPlaces, tablePlaces}
 use Rattle.definitions.specs.Lists.{padded, total, within, Every}
 use Rattle.definitions.specs.Network.{Piece, sizeOf}
-use Rattle.definitions.specs.Text.{refused, value, require, fieldAt, fieldCause, readField, readLine, lineBytes, readRows, readPiece, pieceBytes, readPieces, sizesOf, verticesOf, tableOf, lengthsOf}
+use Rattle.definitions.specs.Text.{refused, value, require, readField, readLine, lineBytes, readRows, readPiece, pieceBytes, readPieces, sizesOf, verticesOf, tableOf, lengthsOf}
 use Rattle.definitions.specs.Judgement.{judgeSize, judgeVertices, judgeBlocks}
 use Rattle.checks.specs.Lent.{judgeTable}
 use Rattle.basics.specs.Causes.{size-in}
@@ -133,16 +131,6 @@ pub record Sized (text : List ℕ) (at m : ℕ) : Type 0 where
   pub high : m ≤ 24
   pub inside : at + 6 ≤ length text
 
-field-value : (text : List ℕ) (at m : ℕ) → readField text at ≡ value m → at + 6 ≤ length text
-unfolding readField
-field-value text at m e =
-    let a = bind-value (require (fieldCause (fieldAt text at))) _ m e in
-    go (fieldAt text at) refl (require-value (fieldCause (fieldAt text at)) (a .0) (a .1))
-  where
-    go : (f : Field) → fieldAt text at ≡ f → fieldCause (fieldAt text at) ≡ 0 → at + 6 ≤ length text
-    go (Number x) q z = field-in text at x q
-    go Malformed q z = absurd (omega (arith, sym (ap fieldCause q) ∙ z))
-
 pub size-facts : (text : List ℕ) (at c m : ℕ) → Came (judged judgeSize (readField text at)) c (λ x. m ≡ x) → c ≡ 0 → Sized text at m
 unfolding judged
 size-facts text at c m came z =
@@ -151,7 +139,7 @@ size-facts text at c m came z =
     let b = bind-value (require (judgeSize (a .0))) _ (d .0) (a .2) in
     let same : a .0 ≡ m = value-same (a .0) (d .0) (b .2) ∙ sym (d .2) in
     let bounds = size-in (a .0) (require-value (judgeSize (a .0)) (b .0) (b .1)) in
-    record { low = omega (arith, same, bounds); high = omega (arith, same, bounds); inside = field-value text at (a .0) (a .1) }
+    record { low = omega (arith, same, bounds); high = omega (arith, same, bounds); inside = field-in text at (a .0) (a .1) }
 
 -- the bytes of a table's lines are few
 pub table-few : (m : ℕ) → m ≤ 24 → m * (6 * m + 1) ≤ 3480

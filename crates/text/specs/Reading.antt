@@ -1,6 +1,7 @@
 -- Reading front to back, one step more: what a loop over fields, rows or pieces needs.
 --   after after-after                 what is read behind what is in hand
 --   value-same bind-value require-value   a value that was read, taken apart
+--   field-in fields-in                a field, and a line's fields, lie in the text
 --   fields-turn fields-stop           one field more
 --   line-go line-stop line-open       a line from its fields
 --   judged                            a line that is judged when it is read
@@ -16,12 +17,10 @@ use lib.Dec.{leb}
 use lib.ListN.{getD, length, take, set}
 use lib.Seq.{take-suc-set}
 use native.Mathlib.Numerals.{add-one}
-use Rattle.definitions.specs.declared.Field.{Field}
-use Rattle.definitions.specs.declared.Field.the-variants.{Number, Malformed}
 use Rattle.basics.specs.Tests.{Truth, holds, fails, truth}
 use Rattle.definitions.specs.Network.{Piece}
 use Rattle.definitions.specs.Judgement.{judgeSize, judgeVertices, judgeRow, judgeBlocks}
-use Rattle.definitions.specs.Text.{require, readRows, readPiece, pieceBytes, readPieces, fieldBytes, fieldAt, Read, refused, value, _>>=_, readField, readFields, judgeLineEnd, readLine, lineBytes}
+use Rattle.definitions.specs.Text.{require, readRows, readPiece, pieceBytes, readPieces, fieldBytes, aField, noField, fieldAt, Read, refused, value, _>>=_, readField, readFields, judgeLineEnd, readLine, lineBytes}
 
 -- what is in hand, and then what is read
 unfoldable pub after : {A : Type 0} → List A → Read (List A) → Read (List A)
@@ -54,33 +53,33 @@ require-value (suc k) u e = let z : _≡_ {A = ℕ} 0 1 = cc in absurd (omega ar
 
 -- ---- fields
 
-pub field-go : (text : List ℕ) (at x : ℕ) → fieldAt text at ≡ Number x → readField text at ≡ value x
+pub field-go : (text : List ℕ) (at x : ℕ) → fieldAt text at ≡ aField x → readField text at ≡ value x
 unfolding readField
 field-go text at x e = rw e
 
-pub field-stop : (text : List ℕ) (at : ℕ) → fieldAt text at ≡ Malformed → readField text at ≡ refused 3
+pub field-stop : (text : List ℕ) (at : ℕ) → fieldAt text at ≡ noField → readField text at ≡ refused 3
 unfolding readField
 field-stop text at e = rw e
 
 -- a field lies in the text
-pub field-in : (text : List ℕ) (at x : ℕ) → fieldAt text at ≡ Number x → at + 6 ≤ length text
-unfolding fieldAt
+pub field-in : (text : List ℕ) (at x : ℕ) → readField text at ≡ value x → at + 6 ≤ length text
+unfolding readField fieldAt
 field-in text at x e = go (truth (leb (at + 6) (length text)))
   where
     go : Truth (leb (at + 6) (length text)) → at + 6 ≤ length text
     go (holds t) = leb-true (at + 6) (length text) t
-    go (fails t) = let bad : Malformed ≡ Number x = simp t at e in let z : _≡_ {A = ℕ} 0 1 = cc in absurd (omega arith)
+    go (fails t) = let bad : refused 3 ≡ value x = simp t at e in let z : _≡_ {A = ℕ} 0 1 = cc in absurd (omega arith)
 
-fields-go : (text : List ℕ) (at k x : ℕ) → fieldAt text at ≡ Number x → readFields text at (suc k) ≡ after (x ∷ []) (readFields text (at + fieldBytes) k)
+fields-go : (text : List ℕ) (at k x : ℕ) → fieldAt text at ≡ aField x → readFields text at (suc k) ≡ after (x ∷ []) (readFields text (at + fieldBytes) k)
 unfolding readFields after
 fields-go text at k x e = rw (field-go text at x e)
 
-pub fields-stop : (text : List ℕ) (at k : ℕ) → fieldAt text at ≡ Malformed → readFields text at (suc k) ≡ refused 3
+pub fields-stop : (text : List ℕ) (at k : ℕ) → fieldAt text at ≡ noField → readFields text at (suc k) ≡ refused 3
 unfolding readFields
 fields-stop text at k e = rw (field-stop text at e)
 
 -- what a loop has read, with one field more
-pub fields-turn : (text : List ℕ) (at k i place x : ℕ) (out : List ℕ) → i < k → length out ≡ k → fieldAt text place ≡ Number x
+pub fields-turn : (text : List ℕ) (at k i place x : ℕ) (out : List ℕ) → i < k → length out ≡ k → fieldAt text place ≡ aField x
     → readFields text at k ≡ after (take i out) (readFields text place (k - i))
     → readFields text at k ≡ after (take (i + 1) (set out i x)) (readFields text (place + 6) (k - (i + 1)))
 fields-turn text at k i place x out h l e q =
@@ -89,17 +88,12 @@ fields-turn text at k i place x out h l e q =
     q ∙ rw (z, fields-go text place (k - (i + 1)) x e, after-after, add-one i, take-suc-set out i x b)
 
 pub fields-in : (text : List ℕ) (at k : ℕ) (xs : List ℕ) → readFields text at k ≡ value xs → at ≤ length text → at + 6 * k ≤ length text
-unfolding after
+unfolding readFields
 fields-in text at zero xs e h = omega arith
-fields-in text at (suc k) xs e h = go (λ ys q l. fields-in text (at + 6) k ys q l) (fieldAt text at) refl
-  where
-    next : (x : ℕ) (r : Read (List ℕ)) → readFields text (at + 6) k ≡ r → after (x ∷ []) r ≡ value xs → (ys : List ℕ) × (readFields text (at + 6) k ≡ value ys)
-    next x (refused j) p q = let z : _≡_ {A = ℕ} 0 1 = cc in absurd (omega arith)
-    next x (value ys) p q = (ys, p)
-
-    go : ((ys : List ℕ) → readFields text (at + 6) k ≡ value ys → at + 6 ≤ length text → at + 6 + 6 * k ≤ length text) → (f : Field) → fieldAt text at ≡ f → at + 6 * suc k ≤ length text
-    go rest (Number x) q = let w = next x (readFields text (at + 6) k) refl (sym (fields-go text at k x q) ∙ e) in omega (arith, rest (w .0) (w .1) (field-in text at x q))
-    go rest Malformed q = let bad : refused 3 ≡ value xs = sym (fields-stop text at k q) ∙ e in let z : _≡_ {A = ℕ} 0 1 = cc in absurd (omega arith)
+fields-in text at (suc k) xs e h =
+    let first = bind-value (readField text at) _ xs e in
+    let rest = bind-value (readFields text (at + 6) k) _ xs (first .2) in
+    omega (arith, fields-in text (at + 6) k (rest .0) (rest .1) (field-in text at (first .0) (first .1)))
 
 -- ---- a cause
 

@@ -10,8 +10,7 @@ use Prim.Native.Nat.{ℕ, suc, _+_, _-_, _*_, _≤_, _<_}
 use native.Mathlib.Omega.{arith}
 use lib.ListN.{getD, length, take, List·getD-eq-default}
 use lib.Seq.{take-all}
-use Rattle.definitions.specs.declared.Field.the-variants.{Malformed}
-use Rattle.definitions.specs.Text.{fieldAt, Read, refused, value, readFields, readLine}
+use Rattle.definitions.specs.Text.{noField, fieldAt, Read, refused, value, readFields, readLine}
 use Rattle.text.specs.Outcomes.{Came}
 use Rattle.text.specs.Reading.{judged, judged-go, judged-out, judged-stop, after, fields-stop, fields-in, line-go, line-stop, line-open}
 
@@ -23,7 +22,7 @@ module _ {A : Type 0} (read : Read A) (Shows : A → Type 0) where
   came-go a e s = record { done = λ _. (a, e, s); stopped = λ n. absurd (n refl) }
 
 module _ (text : List ℕ) (at k i place : ℕ) (out : List ℕ) (so-far : readFields text at k ≡ after (take i out) (readFields text place (k - i))) where
-  pub fields-broken : i < k → fieldAt text place ≡ Malformed → Came (readFields text at k) 3 (λ xs. out ≡ xs)
+  pub fields-broken : i < k → fieldAt text place ≡ noField → Came (readFields text at k) 3 (λ xs. out ≡ xs)
   unfolding after
   fields-broken h e =
       let z : k - i ≡ suc (k - (i + 1)) = (omega arith) in

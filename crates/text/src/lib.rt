@@ -1,4 +1,6 @@
 // The text reader: text of at most 60,000 bytes into the lent sizes, vertices and lengths.
+mod reader;
+
 ghost use mathlib.Core.Path.{_≡_};
 ghost use mathlib.Core.List.{List, []};
 ghost use Prim.Native.Nat.{_+_, _<_, _≤_};

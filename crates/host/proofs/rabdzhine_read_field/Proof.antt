@@ -1,6 +1,6 @@
 -- `rabdzhine_read_field`: a buffer of another size is left, else its one place holds the number that was read, or 0.
-use mathlib.Core.Path.{sym, _∙_}
-use Rattle.definitions.specs.declared.Field.the-variants.{Number, Malformed}
+use mathlib.Core.Path.{sym, ap, _∙_}
+use Rattle.definitions.specs.Text.{aField, noField, fieldAnswer}
 use Rattle.host.specs.Laws.{field-size, field-left}
 use borrow.Author.Needs.{needs}
 use Rattle.host.proofs.rabdzhine_read_field.Statement.{statement}
@@ -27,7 +27,7 @@ same-length c = search needs
 
 returns-2 : tie.Need-returns-2
 returns-2 c =
-    field-left _ _ _ Malformed (c .before .before .before .if1 .left) (sym (c .before .before .read-field .ensures) ∙ c .enum-told .given .1)
+    field-left _ _ _ noField (c .before .before .before .if1 .left) (sym (ap fieldAnswer (c .enum-told .given .1)) ∙ c .before .before .read-field .ensures)
 
 slice-write-value-2 : tie.Need-slice-write-value-2
 slice-write-value-2 c = search needs
@@ -37,7 +37,7 @@ same-length-2 c = search needs
 
 returns-3 : tie.Need-returns-3
 returns-3 c =
-    field-left _ _ _ (Number (c .before .field .given .0 .0)) (c .before .before .before .before .if1 .left) (sym (c .before .before .before .read-field .ensures) ∙ c .before .field .given .1)
+    field-left _ _ _ (aField (c .before .field .given .0 .0)) (c .before .before .before .before .if1 .left) (sym (ap fieldAnswer (c .before .field .given .1)) ∙ c .before .before .before .read-field .ensures)
 
 pub rabdzhine-read-field-spec : {M : Type 1} → statement M
 rabdzhine-read-field-spec =

@@ -1,11 +1,11 @@
 -- `read_fields`: what the definition reads is the fields in the first i places, then those from the place reached on.
-use mathlib.Core.Path.{_≡_, sym, _∙_}
+use mathlib.Core.Path.{_≡_, sym, ap, _∙_}
 use Prim.Native.Nat.{_≤_, _-_}
 use native.Mathlib.Omega.{arith}
 use borrow.Author.Needs.{needs}
 use lib.ListN.{length, take}
-use Rattle.definitions.specs.Text.{readFields}
-use Rattle.text.specs.Reading.{after, after-none, fields-turn, field-in}
+use Rattle.definitions.specs.Text.{fieldAnswer, readFields}
+use Rattle.text.specs.Reading.{after, after-none, fields-turn, field-go, field-in}
 use Rattle.text.specs.Steps.{fields-broken, fields-ended}
 use Rattle.text.proofs.read_fields.Statement.{statement}
 use Rattle.text.proofs.read_fields.Tie as tie
@@ -39,7 +39,7 @@ returns : tie.Need-returns Inv-loop μ-loop
 returns c =
     let l = c .before .before .before .before .loop in
     let h = c .before .before .before .loop-test .taken in
-    fields-broken _ _ _ (l .i) (l .place) (l .out) (l .inv .3) (search needs) (sym (c .before .before .field-at .ensures) ∙ c .enum-told .given .1)
+    fields-broken _ _ _ (l .i) (l .place) (l .out) (l .inv .3) (search needs) (sym (c .before .before .field-at .ensures) ∙ ap fieldAnswer (c .enum-told .given .1))
 
 mul-out : tie.Need-mul-out Inv-loop μ-loop
 mul-out c = search needs
@@ -60,9 +60,10 @@ loop-again : tie.Need-loop-again Inv-loop μ-loop
 loop-again c =
     let l = c .before .before .before .before .before .loop in
     let a = c .before .before .before .before .before .before .before .before .args in
-    let f = sym (c .before .before .before .field-at .ensures) ∙ c .before .field .given .1 in
-    let p = field-in (a .text .now) (l .place) (c .before .field .given .0 .0) f in
-    (search needs, search needs, p, fields-turn (a .text .now) (a .at) (length (a .out .now)) (l .i) (l .place) (c .before .field .given .0 .0) (l .out) (omega arith) (l .inv .1) f (l .inv .3))
+    let x = c .before .field .given .0 .0 in
+    let f = sym (c .before .before .before .field-at .ensures) ∙ ap fieldAnswer (c .before .field .given .1) in
+    let p = field-in (a .text .now) (l .place) x (field-go (a .text .now) (l .place) x f) in
+    (search needs, search needs, p, fields-turn (a .text .now) (a .at) (length (a .out .now)) (l .i) (l .place) x (l .out) (omega arith) (l .inv .1) f (l .inv .3))
 
 same-length-2 : tie.Need-same-length-2 Inv-loop μ-loop
 same-length-2 c = search needs

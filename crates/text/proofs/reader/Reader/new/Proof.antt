@@ -34,13 +34,13 @@ use denote.Triple.Spec.{Meets, tripleOf}
 use denote.Triple.Table.{entered}
 use denote.Triple.Walked.{says, Stays, stay-none, stay-none-slice, walkOf, goes-none, goes-none-slice, Walks, ends-at, walked, walk-meets}
 use denote.Exit.{yes}
-use Rattle.reader.specs.declared.Reader.{Reader}
-use Rattle.reader.proofs.Reader as T
-use Rattle.reader.proofs.Reader.Laws as T′
-use Rattle.reader.proofs.Reader.new.Key.{name as #reader·new}
-use Rattle.reader.proofs.Reader.new as new
-use Rattle.reader.proofs.Reader.new.Statement as stated
-use Rattle.reader.proofs.Reader.new.Code as code
+use Rattle.text.specs.declared.reader.Reader.{Reader}
+use Rattle.text.proofs.reader.Reader as T
+use Rattle.text.proofs.reader.Reader.Laws as T′
+use Rattle.text.proofs.reader.Reader.new.Key.{name as #reader·new}
+use Rattle.text.proofs.reader.Reader.new as new
+use Rattle.text.proofs.reader.Reader.new.Statement as stated
+use Rattle.text.proofs.reader.Reader.new.Code as code
 
 abbrev stayed : Stays (new.ended .signature .params) (new.ended .kept)
 stayed = (stay-none-slice (0 ∷ []) tt (plain (λ _. u8)) yes, (stay-none (λ _. usize) yes, tt))

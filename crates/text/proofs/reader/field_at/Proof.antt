@@ -38,25 +38,25 @@ use denote.Triple.Table.{entered, cited}
 use denote.Triple.Walked.{says, Stays, stay-none, stay-none-slice, walkOf, goes-none, goes-none-slice, Walks, ends-at, walked, walk-meets}
 use denote.Exit.{yes}
 use denote.Triple.Clauses.{ensured, lasts}
-use Rattle.definitions.specs.Text.{fieldAt}
-use Rattle.reader.specs.declared.Reader.{Reader}
+use Rattle.definitions.specs.Text.{FieldAnswer, fieldAt, fieldAnswer}
+use Rattle.text.specs.declared.reader.Reader.{Reader}
 use Rattle.definitions.specs.declared.Field.{Field}
-use Rattle.reader.proofs.Reader as T
-use Rattle.reader.proofs.Reader.Laws as T′
+use Rattle.text.proofs.reader.Reader as T
+use Rattle.text.proofs.reader.Reader.Laws as T′
 use Rattle.definitions.proofs.Field as S
 use Rattle.definitions.proofs.Field.Laws as S′
-use Rattle.reader.proofs.Reader.new as new
-use Rattle.reader.proofs.Reader.new.Symbol as new-def
-use Rattle.reader.proofs.Reader.new.Symbol.{name as #reader·new}
-use Rattle.reader.proofs.Reader.new.Met as new-thm
-use Rattle.reader.proofs.Reader.field as field
-use Rattle.reader.proofs.Reader.field.Symbol as field-def
-use Rattle.reader.proofs.Reader.field.Symbol.{name as #reader·field}
-use Rattle.reader.proofs.Reader.field.Met as field-thm
-use Rattle.reader.proofs.field_at.Key.{name as #reader·field-at}
-use Rattle.reader.proofs.field_at as field-at
-use Rattle.reader.proofs.field_at.Statement as stated
-use Rattle.reader.proofs.field_at.Code as code
+use Rattle.text.proofs.reader.Reader.new as new
+use Rattle.text.proofs.reader.Reader.new.Symbol as new-def
+use Rattle.text.proofs.reader.Reader.new.Symbol.{name as #reader·new}
+use Rattle.text.proofs.reader.Reader.new.Met as new-thm
+use Rattle.text.proofs.reader.Reader.field as field
+use Rattle.text.proofs.reader.Reader.field.Symbol as field-def
+use Rattle.text.proofs.reader.Reader.field.Symbol.{name as #reader·field}
+use Rattle.text.proofs.reader.Reader.field.Met as field-thm
+use Rattle.text.proofs.reader.field_at.Key.{name as #reader·field-at}
+use Rattle.text.proofs.reader.field_at as field-at
+use Rattle.text.proofs.reader.field_at.Statement as stated
+use Rattle.text.proofs.reader.field_at.Code as code
 
 -- the struct's type, over the signature's lifetimes
 abbrev B : Lfts 1 → RattleType
@@ -78,7 +78,7 @@ module _ {M : Type 1} (𝓤 : URA M) (H : Heap 𝓤) (A : Atoms 𝓤) (W : Given
   abbrev v : Val
   v = sliceVal (s .ptr) (length (s .now))
 
-  abbrev found : Field
+  abbrev found : FieldAnswer
   found = fieldAt (now s) n
 
   -- the machine values passed
@@ -115,10 +115,10 @@ module _ {M : Type 1} (𝓤 : URA M) (H : Heap 𝓤) (A : Atoms 𝓤) (W : Given
   goes-field : (r : Reader) (u : Val) → ent 𝓤 (⋆ 𝓤 H A (‵ (B (κ, tt) .own r (u ∷ [])) ∷ (‵ (flft κ q) ⊛ ‵ ftrue) ∷ [])) (FieldOf 𝓤 H A mem run .pre (to-field r u))
   goes-field r u = qed W (‵ (B (κ, tt) .own r (u ∷ [])) ∷ (‵ (flft κ q) ⊛ ‵ ftrue) ∷ []) ∵ nothing ! $ move ! (1 ∷ 0 ∷ []) $ fjoin ! $ move ! (1 ∷ 0 ∷ []) $ join ! $ frame ! $ done !
 
-  field-said : (r : Reader) (t : Field) → ent 𝓤 (ensured 𝓤 H A field.ended (field.clauses 𝓤 H A mem run) (κ, tt) (r, tt) tt t) (fact 𝓤 (t ≡ fieldAt (now (r .text)) (r .at)))
-  field-said r t = exE 𝓤 _ (λ ws. snd∗ 𝓤 (sem 𝓤 H A (lasts field.ended (κ, tt) (r, tt) ws)) (fact 𝓤 (t ≡ fieldAt (now (r .text)) (r .at))))
+  field-said : (r : Reader) (t : Field) → ent 𝓤 (ensured 𝓤 H A field.ended (field.clauses 𝓤 H A mem run) (κ, tt) (r, tt) tt t) (fact 𝓤 (fieldAnswer t ≡ fieldAt (now (r .text)) (r .at)))
+  field-said r t = exE 𝓤 _ (λ ws. snd∗ 𝓤 (sem 𝓤 H A (lasts field.ended (κ, tt) (r, tt) ws)) (fact 𝓤 (fieldAnswer t ≡ fieldAt (now (r .text)) (r .at))))
 
-  exits : (t : Field) (u : Val) → t ≡ found → ent 𝓤 (⋆ 𝓤 H A (‵ (S.the-row .own t (u ∷ [])) ∷ (‵ (flft κ q) ⊛ ‵ ftrue) ∷ ‵ Own ∷ [])) (Post u)
+  exits : (t : Field) (u : Val) → fieldAnswer t ≡ found → ent 𝓤 (⋆ 𝓤 H A (‵ (S.the-row .own t (u ∷ [])) ∷ (‵ (flft κ q) ⊛ ‵ ftrue) ∷ ‵ Own ∷ [])) (Post u)
   exits t u e =
       qed W (‵ (S.the-row .own t (u ∷ [])) ∷ (‵ (flft κ q) ⊛ ‵ ftrue) ∷ ‵ Own ∷ []) ∵
       suffices ! _ (ends-at 𝓤 H A field-at.ended stayed (field-at.clauses 𝓤 H A mem run) W (((κ, tt), (q, tt), tt, (s, (n, tt)), at), tt) u t (tt, (tt, tt)) (tt, (tt, tt))) $ says ! e $
@@ -139,7 +139,7 @@ module _ {M : Type 1} (𝓤 : URA M) (H : Heap 𝓤) (A : Atoms 𝓤) (W : Given
         use2 W (raw (FieldOf 𝓤 H A mem run .pre (to-field r u))) (goes-field r u) $
         calls-at ! fm (FieldOf 𝓤 H A mem run) known-field (to-field r u) (and-then ! (load ! (from ! (stop !)) (look ! 2 refl)) (no-more !)) (λ u′.
         use1 W (later (some (λ (t : Field). ((‵ (flft κ q) ⊛ ‵ ftrue) ⊛ ‵ (S.the-row .own t (u′ ∷ []))) ⊛ raw (ensured 𝓤 H A field.ended (field.clauses 𝓤 H A mem run) (κ, tt) (r, tt) tt t)))) (id⊢ 𝓤 _) $ await ! tt $ pick ! (λ t.
-        split ! $ move ! (1 ∷ []) $ use1 W (raw (fact 𝓤 (t ≡ fieldAt (now (r .text)) (r .at)))) (field-said r t) $ heard ! (t ≡ fieldAt (now (r .text)) (r .at)) (λ e′. split ! $ move ! (1 ∷ []) $
+        split ! $ move ! (1 ∷ []) $ use1 W (raw (fact 𝓤 (fieldAnswer t ≡ fieldAt (now (r .text)) (r .at)))) (field-said r t) $ heard ! (fieldAnswer t ≡ fieldAt (now (r .text)) (r .at)) (λ e′. split ! $ move ! (1 ∷ []) $
         -- [the result; the token; what s owns; _3; …; _2; …; _1; …; room for _0; …]
         peeks ! S.the-row (Is S.the-row) (shows 𝓤 H A S.the-row) t (u′ ∷ []) (λ is′.
         land ! (from ! (stop !)) (init ! 9 refl (EL.lawful S.the-type S′.the-laws 𝓤 H A W tt .typed t _ is′ .0)) $
@@ -164,5 +164,5 @@ field-at-spec 𝓤 H 𝓜 𝓖 𝓡 =
     entered 𝓤 H (tripleOf 𝓤 H (𝓖 .A) field-at.signature (field-at.spec 𝓤 H (𝓖 .A) (𝓜 .mem) (𝓡 .run)))
     (tables 𝓤 H 𝓜 𝓡 code.env .C) (tables 𝓤 H 𝓜 𝓡 code.env .Λ) #reader·field-at code.function (code.unfolded 𝓤 H 𝓜 𝓡)
     (field-at-meets 𝓤 H (𝓖 .A) (givenOf 𝓤 H 𝓜 𝓖) (𝓜 .mem) (𝓡 .run) (tablesOf 𝓤 H 𝓜 (tables 𝓤 H 𝓜 𝓡 code.env))
-    (cited 𝓤 H (New 𝓤 H (𝓖 .A) (𝓜 .mem) (𝓡 .run)) 𝓜 𝓡 code.env #reader·new new-def.routine code.calls-reader·Reader·new (new-thm.met 𝓤 H 𝓜 𝓖 𝓡))
-    (cited 𝓤 H (FieldOf 𝓤 H (𝓖 .A) (𝓜 .mem) (𝓡 .run)) 𝓜 𝓡 code.env #reader·field field-def.routine code.calls-reader·Reader·field (field-thm.met 𝓤 H 𝓜 𝓖 𝓡)))
+    (cited 𝓤 H (New 𝓤 H (𝓖 .A) (𝓜 .mem) (𝓡 .run)) 𝓜 𝓡 code.env #reader·new new-def.routine code.calls-text·reader·Reader·new (new-thm.met 𝓤 H 𝓜 𝓖 𝓡))
+    (cited 𝓤 H (FieldOf 𝓤 H (𝓖 .A) (𝓜 .mem) (𝓡 .run)) 𝓜 𝓡 code.env #reader·field field-def.routine code.calls-text·reader·Reader·field (field-thm.met 𝓤 H 𝓜 𝓖 𝓡)))
