@@ -1,6 +1,6 @@
 -- Document 01, "Text layout": from bytes to a refusal or a plan, in the stated order of judgement.
 --   FieldAnswer fieldOf fieldAt           six bytes: 0 and a number, or no field (3)
---   fieldAnswer                           the number and the value of each case of the code's answer
+--   fieldAnswer                           the number and the value of each case of the program's answer
 --   Read require                          refused by a number, or read
 --   readFields readLine                   a line's layout: its fields and one byte 10
 --   readRows readPiece readPieces         districts, judged as they are read
@@ -71,7 +71,7 @@ fieldOf bytes =
 unfoldable pub fieldAt : List ℕ → ℕ → FieldAnswer
 fieldAt text at = cond (leb (at + fieldBytes) (length text)) (fieldOf (take fieldBytes (drop at text))) noField
 
--- "For each answer that is an enum, a definition gives this paper's number and values for each of the enum's cases"
+-- the number and the value of each case of the program's answer
 abbrev pub fieldAnswer : Field → FieldAnswer
 fieldAnswer (Number x) = aField x
 fieldAnswer Malformed = noField
