@@ -8,22 +8,22 @@ use native.Mathlib.Omega.{arith}
 use lib.ListN.{length}
 use Rattle.definitions.specs.Network.{Rectangle}
 use Rattle.definitions.specs.Blocks.{Monge}
-use Rattle.definitions.specs.Model.{fresh, Call, Answer, step, Trace, freshTrace, extend, traceFrom, trace, Extractions, allowances}
+use Rattle.definitions.specs.Model.{fresh, Call, Answer, step, Trace, freshTrace, extend, traceFrom, trace, AllExtractLeast, allowances}
 use Rattle.heap_laws.specs.Sound.{Sound, fresh-sound, extend-sound}
 use Rattle.heap_laws.specs.Extract.{extracts-least}
 use Rattle.heap_laws.specs.Traces.{step-allowed}
 
-module _ (e : Rectangle) (rows cols : ℕ) (ok : Monge e rows cols) where
+module _ (e : Rectangle) (rows cols : ℕ) where
   record Answered (t : Trace) (ks : List Call) : Type 0 where
     answers : List Answer
     each : length answers ≡ length ks
     added : traceFrom e rows cols t ks .answers ≡ t .answers ++ answers
-    allowed : traceFrom e rows cols t ks .inserted ≤ t .inserted + allowances ks answers
-    least : Extractions e rows cols (t .model) ks answers
+    allowed : Monge e rows cols → traceFrom e rows cols t ks .inserted ≤ t .inserted + allowances ks answers
+    least : AllExtractLeast e rows cols (t .model) ks answers
 
   answered : (t : Trace) (ks : List Call) → Sound e rows cols (t .model) → Answered t ks
   unfolding traceFrom extend allowances
-  answered t [] g = record { answers = []; each = refl; added = sym (append-nil (t .answers)); allowed = omega arith; least = tt }
+  answered t [] g = record { answers = []; each = refl; added = sym (append-nil (t .answers)); allowed = λ ok. omega arith; least = tt }
   answered t (k ∷ ks) g =
       let x = answered (extend e rows cols t k) ks (extend-sound e rows cols t k g) in
       let a = step e rows cols (t .model) k .answer in
@@ -31,7 +31,7 @@ module _ (e : Rectangle) (rows cols : ℕ) (ok : Monge e rows cols) where
         answers = a ∷ x .answers;
         each = ap suc (x .each);
         added = x .added ∙ append-assoc (t .answers) (a ∷ []) (x .answers);
-        allowed = omega (arith, x .allowed, step-allowed e rows cols ok (t .model) k g);
+        allowed = λ ok. omega (arith, x .allowed ok, step-allowed e rows cols ok (t .model) k g);
         least = (λ q. extracts-least e rows cols (t .model) k q, x .least);
       }
 
@@ -45,11 +45,11 @@ module _ (e : Rectangle) (rows cols : ℕ) (ok : Monge e rows cols) where
     trace-each = rw (all .added) (all .each)
 
     -- all calls insert within their allowances
-    pub trace-allowed : trace e rows cols ks .inserted ≤ allowances ks (trace e rows cols ks .answers)
+    pub trace-allowed : Monge e rows cols → trace e rows cols ks .inserted ≤ allowances ks (trace e rows cols ks .answers)
     unfolding trace
-    trace-allowed = rw (all .added) (omega (arith, all .allowed))
+    trace-allowed ok = rw (all .added) (omega (arith, all .allowed ok))
 
     -- each extraction answers the least that is left where its turn comes
-    pub trace-extractions : Extractions e rows cols fresh ks (trace e rows cols ks .answers)
+    pub trace-extractions : AllExtractLeast e rows cols fresh ks (trace e rows cols ks .answers)
     unfolding trace
     trace-extractions = rw (all .added) (all .least)

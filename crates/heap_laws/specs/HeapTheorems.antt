@@ -20,7 +20,7 @@ use Rattle.definitions.specs.Limits.{sum}
 use Rattle.definitions.specs.Lists.{mem, Every}
 use Rattle.definitions.specs.Network.{Rectangle}
 use Rattle.definitions.specs.Blocks.{Monge, isMonge}
-use Rattle.definitions.specs.Model.{by, LeastLeft, parent, available, extract, Model, fresh, Interval, interval, intervals, isKept, Distinct, Call, coded, judge, step, Trace, extend, trace, Extractions, allowances, Rising}
+use Rattle.definitions.specs.Model.{by, LeastLeft, parent, available, extract, Model, fresh, Interval, interval, intervals, isKept, Distinct, Call, coded, judge, step, Trace, extend, trace, AllExtractLeast, allowances, Rising}
 use Rattle.heap_laws.specs.Inequality as inequality
 use Rattle.heap_laws.specs.Least.{from-is, upTo-is}
 use Rattle.heap_laws.specs.Parents as parents
@@ -133,8 +133,8 @@ module _ (e : Rectangle) (rows cols : ℕ) (ks : List Call) where
   extraction-some k h some = extraction.extraction-some e rows cols model k h some
 
   -- Over all calls: each extraction answers none exactly if no interval is left where its turn comes, else the least that is left.
-  pub extractions-least : Monge e rows cols → Extractions e rows cols fresh ks (done .answers)
-  extractions-least ok = trace-extractions e rows cols ok ks
+  pub extractions-least : AllExtractLeast e rows cols fresh ks (done .answers)
+  extractions-least = trace-extractions e rows cols ks
 
   -- The column is cut out of its interval.
   pub extraction-edits : (c s : ℕ) → c < cols
@@ -175,7 +175,7 @@ module _ (e : Rectangle) (rows cols : ℕ) (ks : List Call) where
 
   -- Over all calls: at most three by each activation that is done, two by each extraction that hands out a column, none by any other call.
   pub insertions-allowed : Monge e rows cols → done .inserted ≤ allowances ks (done .answers)
-  insertions-allowed ok = trace-allowed e rows cols ok ks
+  insertions-allowed ok = trace-allowed e rows cols ks ok
 
   -- Over all calls at most three for each activated row and two for each extracted column.
   pub insertions-few : Monge e rows cols → done .inserted ≤ 3 * length (model .activated) + 2 * length (model .extracted)

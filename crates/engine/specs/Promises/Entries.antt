@@ -14,7 +14,7 @@ use Rattle.definitions.specs.Limits.{maxLabel, labelPlaces, unreached}
 use Rattle.definitions.specs.Lists.{count}
 use Rattle.definitions.specs.Network.{Distance}
 use Rattle.definitions.specs.Blocks.{weight}
-use Rattle.definitions.specs.Model.{fresh, Interval, intervals, Rising, trace, Extractions, allowances}
+use Rattle.definitions.specs.Model.{fresh, Interval, intervals, Rising, trace, AllExtractLeast, allowances}
 use Rattle.definitions.specs.Judgement.{piecesOf}
 use Rattle.definitions.specs.Entries.{rectangleOf, callsOf, answersIn, intervalsOf}
 
@@ -30,7 +30,7 @@ pub record PlainSession (rows cols count : ℕ) (lengths calls : List ℕ) (r : 
   -- three inserted at most by each activation that is done, two by each extraction that hands out a column, none by any other call
   pub few : r .inserted ≤ allowances (callsOf calls count) (answersIn answers count)
   -- each extraction answers none exactly if no interval is left where its turn comes, else the least sum left and the lowest column of it
-  pub least : Extractions (rectangleOf lengths) rows cols fresh (callsOf calls count) (answersIn answers count)
+  pub least : AllExtractLeast (rectangleOf lengths) rows cols fresh (callsOf calls count) (answersIn answers count)
 
 -- The labels are distances of at most 25,499,745, places above n are unreached, and the counts are bounded by the sum over the pieces of m·⌈log₂ m⌉.
 pub record PlainLabels (n p : ℕ) (sizes vertices lengths : List ℕ) (source : ℕ) (r : LabelAnswer) (after : List ℕ) : Type 0 where

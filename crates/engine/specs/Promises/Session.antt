@@ -11,7 +11,7 @@ use Prim.Native.Nat.{ℕ, _+_, _*_, _≤_, _<_}
 use lib.ListN.{getD, length, drop, replicate}
 use Rattle.definitions.specs.Limits.{unreached}
 use Rattle.definitions.specs.Lists.{total, Every}
-use Rattle.definitions.specs.Model.{Model, fresh, isActivated, intervals, Distinct, countNew, Call, Answer, Stepped, step, allowance, ExtractsLeast, Trace, trace, Extractions, allowances}
+use Rattle.definitions.specs.Model.{Model, fresh, isActivated, intervals, Distinct, countNew, Call, Answer, Stepped, step, allowance, ExtractsLeast, Trace, trace, AllExtractLeast, allowances}
 use Rattle.definitions.specs.Entries.{answerNumbers}
 use Rattle.engine.specs.declared.session.Called.{Called}
 use Rattle.engine.specs.Promises.Words.{kept}
@@ -75,7 +75,7 @@ pub record Agrees (rows : List (List ℕ)) (cols : ℕ) (ks : List Call) (heap l
   -- three inserted at most by each activation, two by each extraction, none by any other call
   pub few : inserted ≤ allowances ks (traceOf rows cols ks .answers)
   -- each extraction answers none exactly if no interval is left where its turn comes, else the least that is left
-  pub least : Extractions (entry rows 0) (length rows) cols fresh ks (traceOf rows cols ks .answers)
+  pub least : AllExtractLeast (entry rows 0) (length rows) cols fresh ks (traceOf rows cols ks .answers)
 
 -- What `run_calls` promises of the calls ks: the answers stand at the front of their buffer, three numbers each, and the rest is as `before`.
 pub record Ran (rows : List (List ℕ)) (cols : ℕ) (ks : List Call) (heap labels before answers : List ℕ) (inserted removed : ℕ) : Type 0 where

@@ -12,7 +12,7 @@ use Rattle.basics.specs.Tests.{Equal, equal, differ, equality}
 use Rattle.heap_laws.specs.Answers.{trace-each, trace-allowed, trace-extractions}
 use Rattle.heap_laws.specs.HeapTheorems.{intervals-once, inserted-removed-kept}
 use Rattle.engine.specs.Promises.Entries.{PlainSession}
-use Rattle.engine.specs.Session.Judged.{Accepted, accepted}
+use Rattle.engine.specs.Session.Judged.{accepted}
 use Rattle.engine.specs.Session.Threes.{answers-back}
 
 module _ (rows cols count : ℕ) (lengths calls answers₀ intervals₀ : List ℕ) where
@@ -20,11 +20,11 @@ module _ (rows cols count : ℕ) (lengths calls answers₀ intervals₀ : List �
   ks = callsOf calls count
 
   -- the answers stand in the buffer
-  answers-are : Accepted rows cols count lengths calls answers₀ intervals₀ → answersIn (answersOf (trace (rectangleOf lengths) rows cols ks .answers)) count ≡ trace (rectangleOf lengths) rows cols ks .answers
+  answers-are : answersIn (answersOf (trace (rectangleOf lengths) rows cols ks .answers)) count ≡ trace (rectangleOf lengths) rows cols ks .answers
   unfolding answersOf padded callsOf
-  answers-are a =
+  answers-are =
       let e : length (map (callAt calls) (upFrom 0 count)) ≡ count = length-map (upFrom 0 count) (callAt calls) ∙ length-upFrom 0 count in
-      let n = trace-each (rectangleOf lengths) rows cols (a .monge) ks ∙ e in
+      let n = trace-each (rectangleOf lengths) rows cols ks ∙ e in
       ap (answersIn (answersOf (trace (rectangleOf lengths) rows cols ks .answers))) (sym n) ∙ answers-back (trace (rectangleOf lengths) rows cols ks .answers) _
 
   pub plain-session : (r : SessionAnswer) (answers after : List ℕ) → record { answer = r; answers = answers; intervals = after } ≡ session rows cols count lengths calls answers₀ intervals₀
@@ -37,13 +37,13 @@ module _ (rows cols count : ℕ) (lengths calls answers₀ intervals₀ : List �
       go (equal t q) =
           let g = accepted rows cols count lengths calls answers₀ intervals₀ _ refl q in
           let a = ap (λ (x : AfterSession). x .answer) (rw t at e) in
-          let s : answersIn answers count ≡ trace (rectangleOf lengths) rows cols ks .answers = rw (ap (λ (x : AfterSession). x .answers) (rw t at e)) (answers-are g) in
+          let s : answersIn answers count ≡ trace (rectangleOf lengths) rows cols ks .answers = rw (ap (λ (x : AfterSession). x .answers) (rw t at e)) answers-are in
           record {
             kept = _;
             written = ap (λ (x : AfterSession). x .intervals) (rw t at e);
             kept-are = refl;
             rising = intervals-once (rectangleOf lengths) rows cols ks .0;
             balanced = rw a (inserted-removed-kept (rectangleOf lengths) rows cols ks);
-            few = rw (a, s) (trace-allowed (rectangleOf lengths) rows cols (g .monge) ks);
-            least = rw s (trace-extractions (rectangleOf lengths) rows cols (g .monge) ks);
+            few = rw (a, s) (trace-allowed (rectangleOf lengths) rows cols ks (g .monge));
+            least = rw s (trace-extractions (rectangleOf lengths) rows cols ks);
           }
