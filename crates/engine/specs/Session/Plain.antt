@@ -1,19 +1,18 @@
 -- What an accepted session returns and leaves, in plain terms, from its equation with the definition.
 use mathlib.Core.Path.{_≡_, refl, sym, ap, _∙_}
-use mathlib.Core.List.{List, map}
+use mathlib.Core.List.{List}
 use Prim.Native.Nat.{ℕ}
-use lib.ListN.{length, length-map}
 use Rattle.definitions.specs.declared.SessionAnswer.{SessionAnswer}
-use Rattle.definitions.specs.Lists.{padded, upFrom}
+use Rattle.definitions.specs.Lists.{padded}
 use Rattle.definitions.specs.Model.{Call, trace}
-use Rattle.definitions.specs.Entries.{AfterSession, rectangleOf, judgeSession, callAt, callsOf, answersOf, answersIn, session}
-use Rattle.basics.specs.Sequences.{length-upFrom}
+use Rattle.definitions.specs.Entries.{AfterSession, rectangleOf, judgeSession, callsOf, answersOf, answersIn, session}
 use Rattle.basics.specs.Tests.{Equal, equal, differ, equality}
 use Rattle.heap_laws.specs.Answers.{trace-each, trace-allowed, trace-extractions}
 use Rattle.heap_laws.specs.HeapTheorems.{intervals-once, inserted-removed-kept}
 use Rattle.engine.specs.Promises.Entries.{PlainSession}
 use Rattle.engine.specs.Session.Judged.{accepted}
 use Rattle.engine.specs.Session.Threes.{answers-back}
+use Rattle.engine.specs.Session.Traces.{length-callsOf}
 
 module _ (rows cols count : ℕ) (lengths calls answers₀ intervals₀ : List ℕ) where
   abbrev ks : List Call
@@ -21,10 +20,9 @@ module _ (rows cols count : ℕ) (lengths calls answers₀ intervals₀ : List �
 
   -- the answers stand in the buffer
   answers-are : answersIn (answersOf (trace (rectangleOf lengths) rows cols ks .answers)) count ≡ trace (rectangleOf lengths) rows cols ks .answers
-  unfolding answersOf padded callsOf
+  unfolding answersOf padded
   answers-are =
-      let e : length (map (callAt calls) (upFrom 0 count)) ≡ count = length-map (upFrom 0 count) (callAt calls) ∙ length-upFrom 0 count in
-      let n = trace-each (rectangleOf lengths) rows cols ks ∙ e in
+      let n = trace-each (rectangleOf lengths) rows cols ks ∙ length-callsOf calls count in
       ap (answersIn (answersOf (trace (rectangleOf lengths) rows cols ks .answers))) (sym n) ∙ answers-back (trace (rectangleOf lengths) rows cols ks .answers) _
 
   pub plain-session : (r : SessionAnswer) (answers after : List ℕ) → record { answer = r; answers = answers; intervals = after } ≡ session rows cols count lengths calls answers₀ intervals₀
