@@ -1,8 +1,9 @@
 -- `replace` shifts what comes after, writes the count, then the two rests.
 use mathlib.Core.Path.{_∙_}
-use Prim.Native.Nat.{_+_, _*_, _-_, _≤_, _<_}
+use Prim.Native.Nat.{_+_, _-_, _≤_, _<_}
 use native.Mathlib.Omega.{arith}
 use lib.ListN.{length, length-set}
+use Rattle.layout.specs.HeapWords.{heapWords}
 use Rattle.engine.specs.Heap.Words.{wordEnd}
 use Rattle.engine.specs.Heap.Clear.{replace-room, replaced}
 use borrow.Author.Needs.{needs}
@@ -14,7 +15,7 @@ room : (c : tie.After-rest-len2) →
     let n = c .before .before .count .result in
     let a = c .before .before .before .before .before .args in
     let to = a .lo + c .before .rest-len .result + a .gap + c .rest-len2 .result in
-    (2 + 3 * n ≤ length (a .heap .now)) × (2 + 3 * (to + (n - a .hi)) ≤ length (a .heap .now)) × (to + (n - a .hi) < wordEnd)
+    (heapWords n ≤ length (a .heap .now)) × (heapWords (to + (n - a .hi)) ≤ length (a .heap .now)) × (to + (n - a .hi) < wordEnd)
 room c = replace-room _ _ _ _ _ _ _ _ _ (c .before .before .before .before .before .pre) (c .before .before .count .ensures) (c .before .rest-len .ensures .0) (c .rest-len2 .ensures .0)
 
 shift-requires : tie.Need-shift-requires
