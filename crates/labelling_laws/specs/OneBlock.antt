@@ -20,7 +20,7 @@ use Rattle.definitions.specs.Lists.{mem, Every}
 use Rattle.definitions.specs.Network.{Rectangle}
 use Rattle.definitions.specs.Blocks.{Monge, Block}
 use Rattle.definitions.specs.Model.{Best, nobody, by, lesser, least, Activation, Model, through, parent, available, leastFrom, isActivated, judge, step, activate, extract, Trace, extend}
-use Rattle.definitions.specs.Labelling.{BlockState, activation, extraction, freshBlock, apply, leastOf, placeOf, activateAt, activateVertex, Settled, labelOf}
+use Rattle.definitions.specs.Labelling.{BlockState, activation, extraction, freshBlock, apply, leastOf, placeOf, activateAt, activateVertex, Settled, settledAt, labelOf}
 use Rattle.basics.specs.Tests.{clash, Truth, holds, fails, truth, Equal, equal, differ, equality}
 use Rattle.basics.specs.Lists.{every-snoc, Different, mem-snoc}
 use Rattle.heap_laws.specs.Least.{From, from-lesser}
@@ -195,7 +195,7 @@ module _ (n : ℕ) (old xs : List Settled) (level : ℕ) where
       simp (lt-leb (length (s .block .rows)) r (i .0), fresh-row v no-label s h r p, le-ltb maxLabel level top, le-ltb level (s .trace .model .floor) (h .fine .floor))
 
   pub activate-good : (v : ℕ) → labelOf v old ≡ none → level ≤ maxLabel
-      → (s : BlockState) → Good n old xs level s → Good n (old ++ record { vertex = v; label = level } ∷ []) xs level (activateVertex v level s)
+      → (s : BlockState) → Good n old xs level s → Good n (old ++ settledAt v level ∷ []) xs level (activateVertex v level s)
   unfolding activateVertex activateAt apply activatedOne
   activate-good v no-label top s h = go (placeOf v 0 (b .rows)) refl
     where
@@ -203,7 +203,7 @@ module _ (n : ℕ) (old xs : List Settled) (level : ℕ) where
       b = s .block
 
       now : List Settled
-      now = old ++ record { vertex = v; label = level } ∷ []
+      now = old ++ settledAt v level ∷ []
 
       go : (y : Option ℕ) → placeOf v 0 (b .rows) ≡ y → Good n now xs level (activateAt y level s)
       go none p = record {
