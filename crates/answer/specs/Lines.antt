@@ -2,6 +2,7 @@
 --   length-line            a line of k fields has 9·k + 1 bytes
 --   fields-turn fields-all a line's fields, written one by one
 --   vertexLines vertices-next length-vertices   the lines of the vertices, one by one
+--   refusalWord refusalBytes refusal-is refusal-fits   the line of a refusal
 use mathlib.Core.Path.{_≡_, sym, _∙_}
 use mathlib.Core.List.{List, [], _∷_, _++_, flatMap, append-assoc}
 use Prim.Native.Nat.{ℕ, zero, suc, _+_, _-_, _*_, _≤_, _<_}
@@ -12,9 +13,9 @@ use lib.ListN.{getD, length, take, drop, length-append}
 use lib.Seq.{take-at, take-all, take-suc, length-take-le}
 use Rattle.definitions.specs.Limits.{linePlaces}
 use Rattle.definitions.specs.Lists.{upFrom, firstCause}
-use Rattle.definitions.specs.Text.{lineEnd}
-use Rattle.definitions.specs.Entries.{columnBytes, hasPlaces, nineColumns, judgeWrite, writeField, listingLine}
-use Rattle.fields.specs.Writing.{length-nineColumns}
+use Rattle.definitions.specs.Text.{blank, lineEnd}
+use Rattle.definitions.specs.Entries.{columnBytes, hasPlaces, decimal, nineColumns, judgeWrite, writeField, listingLine, refusalLine}
+use Rattle.fields.specs.Writing.{length-nineColumns, maxDigits, decimal-few}
 use Rattle.basics.specs.Buffers.{flatMap-snoc, put, put-nothing}
 use Rattle.answer.specs.Listing.{listingLineBytes}
 use Rattle.answer.specs.Output.{Put, put-then}
@@ -73,3 +74,20 @@ module _ (labels out : List ℕ) (place n v : ℕ) where
   pub vertices-all : v ≡ n + 1 → put out place (vertexLines labels v (n + 1 - v)) ≡ out
   unfolding vertexLines flatMap upFrom
   vertices-all h = let z : n + 1 - v ≡ 0 = omega arith in rw z (put-nothing out place)
+
+-- ---- the line of a refusal
+
+-- `refused` and a blank
+abbrev pub refusalWord : List ℕ
+refusalWord = 114 ∷ 101 ∷ 102 ∷ 117 ∷ 115 ∷ 101 ∷ 100 ∷ blank ∷ []
+
+-- room for it, whatever the number
+abbrev pub refusalBytes : ℕ
+refusalBytes = length refusalWord + maxDigits + 1
+
+pub refusal-is : (k : ℕ) → (refusalWord ++ decimal k) ++ (lineEnd ∷ []) ≡ refusalLine k
+unfolding refusalLine
+refusal-is k = append-assoc refusalWord (decimal k) (lineEnd ∷ [])
+
+pub refusal-fits : (k : ℕ) → length (refusalLine k) ≤ refusalBytes
+refusal-fits k = rw (← refusal-is k) (simp length-append (omega (arith, decimal-few k)))

@@ -23,7 +23,7 @@ abbrev textOf : tie.After-read-text → List ℕ
 textOf c = entered c .before .before .before .args .text .now
 
 -- the reader's answer is not 0
-refusal : (c : tie.Then2) → let r = readOf (c .before) in (r .read-text .result .number ≤ 8) × (refusalLine (r .read-text .result .number) ≡ listing (textOf r))
+refusal : (c : tie.Then2) → let r = readOf (c .before) in refusalLine (r .read-text .result .number) ≡ listing (textOf r)
 refusal c =
     let r = readOf (c .before) .read-text in
     read-refused _ _ _ _ (r .result) (r .last .1 .0) (r .last .1 .1 .0) (r .last .1 .1 .1 .0) (r .ensures) sized (c .if2 .taken)
@@ -50,7 +50,7 @@ read-text-requires : tie.Need-read-text-requires
 read-text-requires c κs = search needs
 
 put-refusal-requires : tie.Need-put-refusal-requires
-put-refusal-requires c κs = (refusal (c .before) .0, omega arith)
+put-refusal-requires c κs = omega arith
 
 same-length : tie.Need-same-length
 same-length c = search needs
@@ -58,7 +58,7 @@ same-length c = search needs
 returns-2 : tie.Need-returns-2
 returns-2 c =
     let then2 = c .before .before .before .before in
-    finished _ _ (entered (readOf (then2 .before)) .if1 .left) _ _ _ (c .before .before .put-refusal .ensures) (refusal then2 .1)
+    finished _ _ (entered (readOf (then2 .before)) .if1 .left) _ _ _ (c .before .before .put-refusal .ensures) (refusal then2)
 
 slice-aggregate-label-network : tie.Need-slice-aggregate-label-network
 slice-aggregate-label-network c = search needs
