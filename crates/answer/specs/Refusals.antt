@@ -9,7 +9,7 @@ use lib.ListN.{getD}
 use Rattle.definitions.specs.Lists.{total}
 use Rattle.definitions.specs.Network.{Piece}
 use Rattle.definitions.specs.Judgement.{judgeBounds, judgeSize, judgeVertices, judgeRow, judgeBlocks, judgeSource}
-use Rattle.definitions.specs.Text.{fieldBytes, fieldAt, Read, refused, value, _>>=_, require, readField, readFields, judgeLineEnd, readLine, lineBytes, readRows, readPiece, pieceBytes, readPieces, judgeEnd, readBody, readPlan, judgeLength, readText}
+use Rattle.definitions.specs.Text.{fieldBytes, fieldAt, lengthAt, FieldReading, Read, refused, value, _>>=_, require, readField, readFields, judgeLineEnd, readLine, lineBytes, readRows, readPiece, pieceBytes, readPieces, judgeEnd, readBody, readPlan, judgeLength, readText}
 
 abbrev pub Numbered : {A : Type 0} → Read A → Type 0
 Numbered (refused k) = 1 ≤ k
@@ -26,32 +26,32 @@ numbered-require (suc k) f g = omega arith
 
 -- ---- the parts of a text
 
-numbered-field : (text : List ℕ) (at : ℕ) → Numbered (readField text at)
+numbered-field : (field : FieldReading) (text : List ℕ) (at : ℕ) → Numbered (readField field text at)
 unfolding readField
-numbered-field text at = numbered-require ((fieldAt text at) .number) _ tt
+numbered-field field text at = numbered-require ((field text at) .number) _ tt
 
-numbered-fields : (text : List ℕ) (at k : ℕ) → Numbered (readFields text at k)
+numbered-fields : (field : FieldReading) (text : List ℕ) (at k : ℕ) → Numbered (readFields field text at k)
 unfolding readFields
-numbered-fields text at zero = tt
-numbered-fields text at (suc k) =
-    numbered-bind (readField text at) _ (numbered-field text at) (λ x. numbered-bind (readFields text (at + fieldBytes) k) _ (numbered-fields text (at + fieldBytes) k) (λ xs. tt))
+numbered-fields field text at zero = tt
+numbered-fields field text at (suc k) =
+    numbered-bind (readField field text at) _ (numbered-field field text at) (λ x. numbered-bind (readFields field text (at + fieldBytes) k) _ (numbered-fields field text (at + fieldBytes) k) (λ xs. tt))
 
-numbered-line : (text : List ℕ) (at k : ℕ) → Numbered (readLine text at k)
+numbered-line : (field : FieldReading) (text : List ℕ) (at k : ℕ) → Numbered (readLine field text at k)
 unfolding readLine
-numbered-line text at k = numbered-bind (readFields text at k) _ (numbered-fields text at k) (λ xs. numbered-require (judgeLineEnd text (at + fieldBytes * k)) _ tt)
+numbered-line field text at k = numbered-bind (readFields field text at k) _ (numbered-fields field text at k) (λ xs. numbered-require (judgeLineEnd text (at + fieldBytes * k)) _ tt)
 
 numbered-rows : (text : List ℕ) (at m i k : ℕ) → Numbered (readRows text at m i k)
 unfolding readRows
 numbered-rows text at m i zero = tt
 numbered-rows text at m i (suc k) =
-    numbered-bind (readLine text at m) _ (numbered-line text at m) (λ row. numbered-require (judgeRow i row) _
+    numbered-bind (readLine lengthAt text at m) _ (numbered-line lengthAt text at m) (λ row. numbered-require (judgeRow i row) _
     (numbered-bind (readRows text (at + lineBytes m) m (suc i) k) _ (numbered-rows text (at + lineBytes m) m (suc i) k) (λ rows. tt)))
 
 numbered-piece : (text : List ℕ) (n at : ℕ) → Numbered (readPiece text n at)
 unfolding readPiece
 numbered-piece text n at =
-    numbered-bind (readField text at) _ (numbered-field text at) (λ m. numbered-require (judgeSize m) _
-    (numbered-bind (readLine text (at + fieldBytes) m) _ (numbered-line text (at + fieldBytes) m) (λ vertices. numbered-require (judgeVertices n vertices) _
+    numbered-bind (readField fieldAt text at) _ (numbered-field fieldAt text at) (λ m. numbered-require (judgeSize m) _
+    (numbered-bind (readLine fieldAt text (at + fieldBytes) m) _ (numbered-line fieldAt text (at + fieldBytes) m) (λ vertices. numbered-require (judgeVertices n vertices) _
     (numbered-bind (readRows text (at + lineBytes (suc m)) m 0 m) _ (numbered-rows text (at + lineBytes (suc m)) m 0 m) (λ rows. numbered-require (judgeBlocks (record { vertices = vertices; rows = rows })) _ tt)))))
 
 numbered-pieces : (text : List ℕ) (n at k : ℕ) → Numbered (readPieces text n at k)
@@ -65,12 +65,12 @@ unfolding readBody
 numbered-body text n p =
     numbered-require (judgeBounds n p) _
     (numbered-bind (readPieces text n (lineBytes 2) p) _ (numbered-pieces text n (lineBytes 2) p) (λ qs. let at = lineBytes 2 + total (map pieceBytes qs) in
-    numbered-bind (readLine text at 1) _ (numbered-line text at 1) (λ question. numbered-require (judgeSource n (getD question 0 0)) _
+    numbered-bind (readLine fieldAt text at 1) _ (numbered-line fieldAt text at 1) (λ question. numbered-require (judgeSource n (getD question 0 0)) _
     (numbered-require (judgeEnd text (at + lineBytes 1)) _ tt))))
 
 numbered-plan : (text : List ℕ) → Numbered (readPlan text)
 unfolding readPlan
-numbered-plan text = numbered-bind (readLine text 0 2) _ (numbered-line text 0 2) (λ first. numbered-body text (getD first 0 0) (getD first 1 0))
+numbered-plan text = numbered-bind (readLine fieldAt text 0 2) _ (numbered-line fieldAt text 0 2) (λ first. numbered-body text (getD first 0 0) (getD first 1 0))
 
 pub numbered-text : (text : List ℕ) → Numbered (readText text)
 unfolding readText

@@ -21,14 +21,14 @@ use Rattle.basics.specs.Lists.{every-imp, every-snoc, length-padded, total-appe
 use Rattle.definitions.specs.Limits.{sizePlaces, vertexPlaces, lengthPlaces, rowPlaces, tablePlaces}
 use Rattle.definitions.specs.Lists.{padded, total, within, Every}
 use Rattle.definitions.specs.Network.{Piece, sizeOf}
-use Rattle.definitions.specs.Text.{refused, value, require, readField, readLine, lineBytes, readRows, readPiece, pieceBytes, readPieces, sizesOf, verticesOf, tableOf, lengthsOf}
+use Rattle.definitions.specs.Text.{fieldAt, refused, value, require, readField, readLine, lineBytes, readRows, readPiece, pieceBytes, readPieces, sizesOf, verticesOf, tableOf, lengthsOf}
 use Rattle.definitions.specs.Judgement.{judgeSize, judgeVertices, judgeBlocks}
 use Rattle.checks.specs.Lent.{judgeTable}
 use Rattle.basics.specs.Causes.{size-in}
 use Rattle.checks.specs.Pieces.{table-blocks}
 use Rattle.monge.specs.Matrix.{rowsIn}
 use Rattle.text.specs.Outcomes.{Came, RowsLeft}
-use Rattle.text.specs.Reading.{after, after-after, after-none, value-same, bind-value, require-value, field-in, judged, judged-stop, pieceOf, readSized, piece-stop, piece-go, vertices-stop, table-stop, table-go, pieces-go, pieces-stop}
+use Rattle.text.specs.Reading.{after, after-after, after-none, value-same, bind-value, require-value, field-inside, field-in, judged, judged-stop, pieceOf, readSized, piece-stop, piece-go, vertices-stop, table-stop, table-go, pieces-go, pieces-stop}
 use Rattle.text.specs.Buffers.{padded-inner}
 use Rattle.text.specs.Steps.{came-out, came-go, came-judged}
 use Rattle.text.specs.Rows.{rows-back, line-end-in}
@@ -131,15 +131,15 @@ pub record Sized (text : List ℕ) (at m : ℕ) : Type 0 where
   pub high : m ≤ 24
   pub inside : at + 6 ≤ length text
 
-pub size-facts : (text : List ℕ) (at c m : ℕ) → Came (judged judgeSize (readField text at)) c (λ x. m ≡ x) → c ≡ 0 → Sized text at m
+pub size-facts : (text : List ℕ) (at c m : ℕ) → Came (judged judgeSize (readField fieldAt text at)) c (λ x. m ≡ x) → c ≡ 0 → Sized text at m
 unfolding judged
 size-facts text at c m came z =
     let d = came .done z in
-    let a = bind-value (readField text at) _ (d .0) (d .1) in
+    let a = bind-value (readField fieldAt text at) _ (d .0) (d .1) in
     let b = bind-value (require (judgeSize (a .0))) _ (d .0) (a .2) in
     let same : a .0 ≡ m = value-same (a .0) (d .0) (b .2) ∙ sym (d .2) in
     let bounds = size-in (a .0) (require-value (judgeSize (a .0)) (b .0) (b .1)) in
-    record { low = omega (arith, same, bounds); high = omega (arith, same, bounds); inside = field-in text at (a .0) (a .1) }
+    record { low = omega (arith, same, bounds); high = omega (arith, same, bounds); inside = field-in fieldAt field-inside text at (a .0) (a .1) }
 
 -- the bytes of a table's lines are few
 pub table-few : (m : ℕ) → m ≤ 24 → m * (6 * m + 1) ≤ 3480
@@ -216,17 +216,17 @@ pub record SizedLeft (text : List ℕ) (at m d : ℕ) (vertices lengths vertices
   pub lengths-put : lengths′ ≡ put lengths (tablePlaces * d) (tableOf q)
   pub inside : at + pieceBytes q ≤ length text
 
-module _ (text : List ℕ) (n at m k b : ℕ) (vs : List ℕ) (same : k ≡ m) (line : Came (judged (judgeVertices n) (readLine text (at + 6) k)) b (λ xs. vs ≡ xs)) where
+module _ (text : List ℕ) (n at m k b : ℕ) (vs : List ℕ) (same : k ≡ m) (line : Came (judged (judgeVertices n) (readLine fieldAt text (at + 6) k)) b (λ xs. vs ≡ xs)) where
   pub sized-unlisted : (P : Piece → Type 0) → b ≢ 0 → Came (readSized text n at m) b P
   sized-unlisted P h = came-out (readSized text n at m) P b h (vertices-stop text n at m b ((rw same at line) .stopped h))
 
   module _ (fine : b ≡ 0) where
-    listed : judged (judgeVertices n) (readLine text (at + 6) m) ≡ value vs
+    listed : judged (judgeVertices n) (readLine fieldAt text (at + 6) m) ≡ value vs
     listed = let d = (rw same at line) .done fine in d .1 ∙ ap value (sym (d .2))
 
     -- where the rows begin
     pub rows-place : at + 6 * (m + 1) + 1 ≤ length text
-    rows-place = omega (arith, line-end-in (judgeVertices n) text (at + 6) m vs listed)
+    rows-place = omega (arith, line-end-in fieldAt (judgeVertices n) text (at + 6) m vs listed)
 
     module _ (long : length vs ≡ m) (f : ℕ) (table : List ℕ) (read : TableRead text (at + 6 * (m + 1) + 1) m f table) where
       where-rows : at + 6 * (m + 1) + 1 ≡ at + lineBytes (suc m)
@@ -254,7 +254,7 @@ module _ (text : List ℕ) (n at m k b : ℕ) (vs : List ℕ) (same : k ≡ m) (
         }
 
 -- a piece, from its size and what follows
-module _ (text : List ℕ) (n at c m : ℕ) (size : Came (judged judgeSize (readField text at)) c (λ x. m ≡ x)) where
+module _ (text : List ℕ) (n at c m : ℕ) (size : Came (judged judgeSize (readField fieldAt text at)) c (λ x. m ≡ x)) where
   pub piece-unsized : (P : Piece → Type 0) → c ≢ 0 → Came (readPiece text n at) c P
   piece-unsized P h = came-out (readPiece text n at) P c h (piece-stop text n at c (size .stopped h))
 

@@ -15,7 +15,7 @@ use Rattle.definitions.specs.Limits.{maxText, sizePlaces, vertexPlaces, lengthP
 use Rattle.definitions.specs.Lists.{total, firstCause}
 use Rattle.definitions.specs.Network.{Piece}
 use Rattle.definitions.specs.Judgement.{judgeBounds, judgeSource}
-use Rattle.definitions.specs.Text.{Read, refused, value, _>>=_, require, readLine, lineBytes, pieceBytes, readPieces, Plan, judgeEnd, readBody, readPlan, judgeLength}
+use Rattle.definitions.specs.Text.{fieldAt, Read, refused, value, _>>=_, require, readLine, lineBytes, pieceBytes, readPieces, Plan, judgeEnd, readBody, readPlan, judgeLength}
 use Rattle.definitions.specs.Entries.{AfterRead, judgeBuffers, readRefusal, afterRead, reading}
 use Rattle.text.specs.Outcomes.{Came}
 use Rattle.text.specs.Reading.{require-stop}
@@ -27,18 +27,18 @@ use Rattle.text.specs.Pieces.{Held, PiecesLeft}
 
 unfoldable pub readQuestion : List ℕ → ℕ → ℕ → Read ℕ
 readQuestion text n at = do
-  line ← readLine text at 1
+  line ← readLine fieldAt text at 1
   _ ← require (judgeSource n (getD line 0 0))
   _ ← require (judgeEnd text (at + lineBytes 1))
   value (getD line 0 0)
 
-module _ (text : List ℕ) (n at c : ℕ) (out : List ℕ) (came : Came (readLine text at 1) c (λ xs. out ≡ xs)) (source : ℕ) (said : source ≡ getD out 0 0) where
+module _ (text : List ℕ) (n at c : ℕ) (out : List ℕ) (came : Came (readLine fieldAt text at 1) c (λ xs. out ≡ xs)) (source : ℕ) (said : source ≡ getD out 0 0) where
   pub question-line : c ≢ 0 → Came (readQuestion text n at) c (λ x. source ≡ x)
   unfolding readQuestion
   question-line h = came-out (readQuestion text n at) (λ x. source ≡ x) c h (rw (came .stopped h))
 
   module _ (ok : c ≡ 0) where
-    line-is : readLine text at 1 ≡ value out
+    line-is : readLine fieldAt text at 1 ≡ value out
     line-is = let d = came .done ok in d .1 ∙ ap value (sym (d .2))
 
     pub question-source : (k : ℕ) → k ≡ judgeSource n source → k ≢ 0 → Came (readQuestion text n at) k (λ x. source ≡ x)
@@ -76,7 +76,7 @@ plan-out read k s v l h e = record { done = λ z. absurd (h z); stopped = λ _. 
 body-by : (text : List ℕ) (n p : ℕ) (qs : List Piece) (at : ℕ) → judgeBounds n p ≡ 0 → readPieces text n (lineBytes 2) p ≡ value qs → at ≡ lineBytes 2 + total (map pieceBytes qs)
     → readBody text n p ≡ _>>=_ (readQuestion text n at) (λ source. value (planOf n qs source))
 unfolding readBody readQuestion
-body-by text n p qs at b e q = rw (b, e, ← q) (ask (readLine text at 1))
+body-by text n p qs at b e q = rw (b, e, ← q) (ask (readLine fieldAt text at 1))
   where
     end : (source : ℕ) (r : Read (Unit {0})) → _>>=_ r (λ _. value (planOf n qs source)) ≡ _>>=_ (_>>=_ r (λ _. value source)) (λ s. value (planOf n qs s))
     end source (refused k) = refl
@@ -92,10 +92,10 @@ body-by text n p qs at b e q = rw (b, e, ← q) (ask (readLine text at 1))
     ask (value line) = judge (getD line 0 0) (require (judgeSource n (getD line 0 0))) (require (judgeEnd text (at + lineBytes 1)))
 
 -- the pieces begin in the text, or at its end
-pub line-end-in-first : (text : List ℕ) (c : ℕ) {out : List ℕ} → Came (readLine text 0 2) c (λ xs. out ≡ xs) → c ≡ 0 → 13 ≤ length text
-line-end-in-first text c came z = let d = came .done z in omega (arith, line-ends text 0 2 (d .0) (d .1))
+pub line-end-in-first : (text : List ℕ) (c : ℕ) {out : List ℕ} → Came (readLine fieldAt text 0 2) c (λ xs. out ≡ xs) → c ≡ 0 → 13 ≤ length text
+line-end-in-first text c came z = let d = came .done z in omega (arith, line-ends fieldAt text 0 2 (d .0) (d .1))
 
-module _ (text : List ℕ) (c : ℕ) (out : List ℕ) (came : Came (readLine text 0 2) c (λ xs. out ≡ xs)) (s v l : List ℕ) where
+module _ (text : List ℕ) (c : ℕ) (out : List ℕ) (came : Came (readLine fieldAt text 0 2) c (λ xs. out ≡ xs)) (s v l : List ℕ) where
   pub plan-line : c ≢ 0 → PlanRead (readPlan text) (readRefusal c) s v l
   unfolding readPlan
   plan-line h = plan-out (readPlan text) c s v l h (rw (came .stopped h))
