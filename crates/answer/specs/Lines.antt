@@ -11,7 +11,7 @@ use native.Mathlib.Omega.{arith}
 use borrow.Author.Tests.{eq-eqb, le-leb}
 use lib.ListN.{getD, length, take, drop, length-append}
 use lib.Seq.{take-at, take-all, take-suc, length-take-le}
-use Rattle.definitions.specs.Limits.{linePlaces}
+use Rattle.definitions.specs.Limits.{linePlaces, lastPlace}
 use Rattle.definitions.specs.Lists.{upFrom, firstCause}
 use Rattle.definitions.specs.Text.{blank, lineEnd}
 use Rattle.definitions.specs.Entries.{columnBytes, hasPlaces, decimal, nineColumns, judgeWrite, writeField, listingLine, refusalLine}
@@ -32,19 +32,19 @@ length-line xs = length-append (flatMap nineColumns xs) (lineEnd ∷ []) ∙ ome
 -- ---- the fields of a line
 
 -- one field more
-pub fields-turn : (line numbers : List ℕ) (i : ℕ) → length line ≡ linePlaces → length numbers ≤ 4 → i < length numbers → take (9 * i) line ≡ flatMap nineColumns (take i numbers)
-    → take (9 * (i + 1)) ((writeField line i (getD numbers i 0)) .line) ≡ flatMap nineColumns (take (i + 1) numbers)
+pub fields-turn : (line numbers : List ℕ) (i : ℕ) → length line ≡ linePlaces → length numbers ≤ suc lastPlace → i < length numbers → take (columnBytes * i) line ≡ flatMap nineColumns (take i numbers)
+    → take (columnBytes * (i + 1)) ((writeField line i (getD numbers i 0)) .line) ≡ flatMap nineColumns (take (i + 1) numbers)
 unfolding writeField judgeWrite hasPlaces firstCause
 fields-turn line numbers i long few h e =
     let x = getD numbers i 0 in
-    let z : i ≤ 3 = omega arith in
-    let end : length (take (9 * i) line ++ nineColumns x) ≡ 9 * (i + 1) = length-append (take (9 * i) line) (nineColumns x) ∙ omega (arith, length-nineColumns x, length-take-le (9 * i) line (omega arith)) in
+    let z : i ≤ lastPlace = omega arith in
+    let end : length (take (columnBytes * i) line ++ nineColumns x) ≡ columnBytes * (i + 1) = length-append (take (columnBytes * i) line) (nineColumns x) ∙ omega (arith, length-nineColumns x, length-take-le (columnBytes * i) line (omega arith)) in
     simp (eq-eqb _ _ long, le-leb _ _ z)
-    (rw (← append-assoc (take (9 * i) line) (nineColumns x) (drop (9 * i + 9) line), take-at (take (9 * i) line ++ nineColumns x) (drop (9 * i + 9) line) (9 * (i + 1)) end, e, add-one i, take-suc numbers i 0 h)
+    (rw (← append-assoc (take (columnBytes * i) line) (nineColumns x) (drop (columnBytes * i + columnBytes) line), take-at (take (columnBytes * i) line ++ nineColumns x) (drop (columnBytes * i + columnBytes) line) (columnBytes * (i + 1)) end, e, add-one i, take-suc numbers i 0 h)
     (sym (flatMap-snoc nineColumns (take i numbers) x)))
 
 -- all of them, and the byte 10
-pub fields-all : (line numbers : List ℕ) (i : ℕ) → i ≡ length numbers → take (9 * i) line ≡ flatMap nineColumns (take i numbers) → take (9 * i) line ++ (lineEnd ∷ []) ≡ listingLine numbers
+pub fields-all : (line numbers : List ℕ) (i : ℕ) → i ≡ length numbers → take (columnBytes * i) line ≡ flatMap nineColumns (take i numbers) → take (columnBytes * i) line ++ (lineEnd ∷ []) ≡ listingLine numbers
 unfolding listingLine
 fields-all line numbers i h e = rw (e, take-all i numbers (omega arith))
 

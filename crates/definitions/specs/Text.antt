@@ -127,7 +127,7 @@ readLine field text at k = do
   value xs
 
 -- the bytes of a line of k fields
-unfoldable pub lineBytes : ℕ → ℕ
+abbrev pub lineBytes : ℕ → ℕ
 lineBytes k = fieldBytes * k + 1
 
 -- k rows of m lengths, the first of them row i: "In a line the layout comes first, then fields left to right"

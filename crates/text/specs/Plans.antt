@@ -46,14 +46,14 @@ module _ (text : List ℕ) (n at c : ℕ) (out : List ℕ) (came : Came (readLin
     question-source k e h =
         came-out (readQuestion text n at) (λ x. source ≡ x) k h (rw (line-is, ← said, ← e, require-stop k h))
 
-    pub question-open : (k : ℕ) → k ≡ judgeSource n source → k ≡ 0 → length text ≢ at + 7 → Came (readQuestion text n at) 3 (λ x. source ≡ x)
-    unfolding readQuestion judgeEnd lineBytes
+    pub question-open : (k : ℕ) → k ≡ judgeSource n source → k ≡ 0 → length text ≢ at + lineBytes 1 → Came (readQuestion text n at) 3 (λ x. source ≡ x)
+    unfolding readQuestion judgeEnd
     question-open k e z h =
         let three : _≢_ {A = ℕ} 3 0 = λ w. omega arith in
         came-out (readQuestion text n at) (λ x. source ≡ x) 3 three (rw (line-is, ← said, ← e, z, ne-eqb _ _ h))
 
-    pub question-done : (k : ℕ) → k ≡ judgeSource n source → k ≡ 0 → length text ≡ at + 7 → Came (readQuestion text n at) 0 (λ x. source ≡ x)
-    unfolding readQuestion judgeEnd lineBytes
+    pub question-done : (k : ℕ) → k ≡ judgeSource n source → k ≡ 0 → length text ≡ at + lineBytes 1 → Came (readQuestion text n at) 0 (λ x. source ≡ x)
+    unfolding readQuestion judgeEnd
     question-done k e z h = came-go (readQuestion text n at) (λ x. source ≡ x) source (rw (line-is, ← said, ← e, z, eq-eqb _ _ h)) refl
 
 -- ---- the plan
@@ -92,7 +92,7 @@ body-by text n p qs at b e q = rw (b, e, ← q) (ask (readLine fieldAt text at 1
     ask (value line) = judge (getD line 0 0) (require (judgeSource n (getD line 0 0))) (require (judgeEnd text (at + lineBytes 1)))
 
 -- the pieces begin in the text, or at its end
-pub line-end-in-first : (text : List ℕ) (c : ℕ) {out : List ℕ} → Came (readLine fieldAt text 0 2) c (λ xs. out ≡ xs) → c ≡ 0 → 13 ≤ length text
+pub line-end-in-first : (text : List ℕ) (c : ℕ) {out : List ℕ} → Came (readLine fieldAt text 0 2) c (λ xs. out ≡ xs) → c ≡ 0 → lineBytes 2 ≤ length text
 line-end-in-first text c came z = let d = came .done z in omega (arith, line-ends fieldAt text 0 2 (d .0) (d .1))
 
 module _ (text : List ℕ) (c : ℕ) (out : List ℕ) (came : Came (readLine fieldAt text 0 2) c (λ xs. out ≡ xs)) (s v l : List ℕ) where
@@ -109,14 +109,13 @@ module _ (text : List ℕ) (n p : ℕ) where
   unfolding readBody
   body-bounds s v l k e h = plan-out (readBody text n p) k s v l h (rw (← e, require-stop k h))
 
-  module _ (bounds : judgeBounds n p ≡ 0) (k next : ℕ) (s′ v′ l′ : List ℕ) (read : Came (readPieces text n 13 p) k (PiecesLeft text 13 p next s′ v′ l′)) where
+  module _ (bounds : judgeBounds n p ≡ 0) (k next : ℕ) (s′ v′ l′ : List ℕ) (read : Came (readPieces text n (lineBytes 2) p) k (PiecesLeft text (lineBytes 2) p next s′ v′ l′)) where
     pub body-pieces : (s v l : List ℕ) → k ≢ 0 → PlanRead (readBody text n p) (readRefusal k) s v l
-    unfolding readBody lineBytes
+    unfolding readBody
     body-pieces s v l h = plan-out (readBody text n p) k s v l h (rw (bounds, read .stopped h))
 
     module _ (all-read : k ≡ 0) (j source : ℕ) (asked : Came (readQuestion text n next) j (λ x. source ≡ x)) where
-      body : (qs : List Piece) → readPieces text n 13 p ≡ value qs → next ≡ 13 + total (map pieceBytes qs) → readBody text n p ≡ _>>=_ (readQuestion text n next) (λ t. value (planOf n qs t))
-      unfolding lineBytes
+      body : (qs : List Piece) → readPieces text n (lineBytes 2) p ≡ value qs → next ≡ lineBytes 2 + total (map pieceBytes qs) → readBody text n p ≡ _>>=_ (readQuestion text n next) (λ t. value (planOf n qs t))
       body qs e q = body-by text n p qs next bounds e q
 
       pub body-question : (s v l : List ℕ) → j ≢ 0 → PlanRead (readBody text n p) (readRefusal j) s v l

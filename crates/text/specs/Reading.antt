@@ -20,7 +20,7 @@ use native.Mathlib.Numerals.{add-one}
 use Rattle.basics.specs.Tests.{Truth, holds, fails, truth}
 use Rattle.definitions.specs.Network.{Piece}
 use Rattle.definitions.specs.Judgement.{judgeSize, judgeVertices, judgeRow, judgeBlocks}
-use Rattle.definitions.specs.Text.{require, readRows, readPiece, pieceBytes, readPieces, fieldBytes, aField, noField, fieldAt, lengthAt, FieldReading, Read, refused, value, _>>=_, readField, readFields, judgeLineEnd, readLine, lineBytes}
+use Rattle.definitions.specs.Text.{require, readRows, readPiece, pieceBytes, readPieces, lineEnd, fieldBytes, aField, noField, fieldAt, lengthAt, FieldReading, Read, refused, value, _>>=_, readField, readFields, judgeLineEnd, readLine, lineBytes}
 
 -- what is in hand, and then what is read
 unfoldable pub after : {A : Type 0} → List A → Read (List A) → Read (List A)
@@ -63,17 +63,17 @@ field-stop field text at e = rw e
 
 -- a reading whose fields lie in the text
 abbrev pub Inside : FieldReading → Type 0
-Inside field = (text : List ℕ) (at : ℕ) → (field text at) .number ≡ 0 → at + 6 ≤ length text
+Inside field = (text : List ℕ) (at : ℕ) → (field text at) .number ≡ 0 → at + fieldBytes ≤ length text
 
 pub field-inside : Inside fieldAt
 unfolding fieldAt
-field-inside text at e = go (truth (leb (at + 6) (length text)))
+field-inside text at e = go (truth (leb (at + fieldBytes) (length text)))
   where
-    go : Truth (leb (at + 6) (length text)) → at + 6 ≤ length text
-    go (holds t) = leb-true (at + 6) (length text) t
+    go : Truth (leb (at + fieldBytes) (length text)) → at + fieldBytes ≤ length text
+    go (holds t) = leb-true (at + fieldBytes) (length text) t
     go (fails t) = let bad : _≡_ {A = ℕ} 3 0 = simp t at e in absurd (omega arith)
 
-pub field-in : (field : FieldReading) → Inside field → (text : List ℕ) (at x : ℕ) → readField field text at ≡ value x → at + 6 ≤ length text
+pub field-in : (field : FieldReading) → Inside field → (text : List ℕ) (at x : ℕ) → readField field text at ≡ value x → at + fieldBytes ≤ length text
 unfolding readField
 field-in field inside text at x e =
     let number = bind-value (require ((field text at) .number)) _ x e in
@@ -90,19 +90,19 @@ fields-stop field text at k e = rw (field-stop field text at e)
 -- what a loop has read, with one field more
 pub fields-turn : (field : FieldReading) (text : List ℕ) (at k i place x : ℕ) (out : List ℕ) → i < k → length out ≡ k → field text place ≡ aField x
     → readFields field text at k ≡ after (take i out) (readFields field text place (k - i))
-    → readFields field text at k ≡ after (take (i + 1) (set out i x)) (readFields field text (place + 6) (k - (i + 1)))
+    → readFields field text at k ≡ after (take (i + 1) (set out i x)) (readFields field text (place + fieldBytes) (k - (i + 1)))
 fields-turn field text at k i place x out h l e q =
     let z : k - i ≡ suc (k - (i + 1)) = (omega arith) in
     let b : i < length out = (omega arith) in
     q ∙ rw (z, fields-go field text place (k - (i + 1)) x e, after-after, add-one i, take-suc-set out i x b)
 
-pub fields-in : (field : FieldReading) → Inside field → (text : List ℕ) (at k : ℕ) (xs : List ℕ) → readFields field text at k ≡ value xs → at ≤ length text → at + 6 * k ≤ length text
+pub fields-in : (field : FieldReading) → Inside field → (text : List ℕ) (at k : ℕ) (xs : List ℕ) → readFields field text at k ≡ value xs → at ≤ length text → at + fieldBytes * k ≤ length text
 unfolding readFields
 fields-in field inside text at zero xs e h = omega arith
 fields-in field inside text at (suc k) xs e h =
     let first = bind-value (readField field text at) _ xs e in
-    let rest = bind-value (readFields field text (at + 6) k) _ xs (first .2) in
-    omega (arith, fields-in field inside text (at + 6) k (rest .0) (rest .1) (field-in field inside text at (first .0) (first .1)))
+    let rest = bind-value (readFields field text (at + fieldBytes) k) _ xs (first .2) in
+    omega (arith, fields-in field inside text (at + fieldBytes) k (rest .0) (rest .1) (field-in field inside text at (first .0) (first .1)))
 
 -- ---- a cause
 
@@ -113,7 +113,7 @@ require-stop (suc k) h = refl
 -- ---- a line
 
 module _ (field : FieldReading) (text : List ℕ) (at k : ℕ) where
-  pub line-go : (xs : List ℕ) → readFields field text at k ≡ value xs → getD text (at + fieldBytes * k) 0 ≡ 10 → readLine field text at k ≡ value xs
+  pub line-go : (xs : List ℕ) → readFields field text at k ≡ value xs → getD text (at + fieldBytes * k) 0 ≡ lineEnd → readLine field text at k ≡ value xs
   unfolding readLine judgeLineEnd
   line-go xs e t = rw (e, eq-eqb _ _ t)
 
@@ -121,7 +121,7 @@ module _ (field : FieldReading) (text : List ℕ) (at k : ℕ) where
   unfolding readLine
   line-stop j e = rw e
 
-  pub line-open : (xs : List ℕ) → readFields field text at k ≡ value xs → getD text (at + fieldBytes * k) 0 ≢ 10 → readLine field text at k ≡ refused 3
+  pub line-open : (xs : List ℕ) → readFields field text at k ≡ value xs → getD text (at + fieldBytes * k) 0 ≢ lineEnd → readLine field text at k ≡ refused 3
   unfolding readLine judgeLineEnd
   line-open xs e t = rw (e, ne-eqb _ _ t)
 

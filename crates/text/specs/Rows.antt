@@ -15,10 +15,10 @@ use lib.Seq.{take-at, drop-at}
 use Rattle.basics.specs.Tests.{Order, less, more, order, Truth, holds, fails, truth}
 use Rattle.basics.specs.Buffers.{flatMap-snoc, put, put-padded}
 use Rattle.basics.specs.Lists.{every-snoc, length-padded}
-use Rattle.definitions.specs.Limits.{rowPlaces, tablePlaces}
+use Rattle.definitions.specs.Limits.{maxSize, rowPlaces, tablePlaces}
 use Rattle.definitions.specs.Lists.{padded, upFrom, Every}
 use Rattle.definitions.specs.Judgement.{judgeRow}
-use Rattle.definitions.specs.Text.{lengthAt, FieldReading, Read, refused, value, _>>=_, require, readFields, judgeLineEnd, readLine, lineBytes, readRows}
+use Rattle.definitions.specs.Text.{lineEnd, fieldBytes, lengthAt, FieldReading, Read, refused, value, _>>=_, require, readFields, judgeLineEnd, readLine, lineBytes, readRows}
 use Rattle.text.specs.Outcomes.{Came, RowsLeft}
 use Rattle.text.specs.Reading.{after, after-after, after-none, judged, rows-go, rows-stop}
 use Rattle.text.specs.Buffers.{padded-inner}
@@ -34,20 +34,20 @@ fields-of field text at k xs e = go (readFields field text at k) refl e
     end (refused j) ys q = let z : _≡_ {A = ℕ} 0 1 = cc in absurd (omega arith)
     end (value u) ys q = q
 
-    go : (r : Read (List ℕ)) → readFields field text at k ≡ r → _>>=_ r (λ ys. _>>=_ (require (judgeLineEnd text (at + 6 * k))) (λ _. value ys)) ≡ value xs → readFields field text at k ≡ value xs
+    go : (r : Read (List ℕ)) → readFields field text at k ≡ r → _>>=_ r (λ ys. _>>=_ (require (judgeLineEnd text (at + fieldBytes * k))) (λ _. value ys)) ≡ value xs → readFields field text at k ≡ value xs
     go (refused j) p q = let z : _≡_ {A = ℕ} 0 1 = cc in absurd (omega arith)
-    go (value ys) p q = p ∙ end (require (judgeLineEnd text (at + 6 * k))) ys q
+    go (value ys) p q = p ∙ end (require (judgeLineEnd text (at + fieldBytes * k))) ys q
 
-pub line-ends : (field : FieldReading) (text : List ℕ) (at k : ℕ) (xs : List ℕ) → readLine field text at k ≡ value xs → at + 6 * k < length text
+pub line-ends : (field : FieldReading) (text : List ℕ) (at k : ℕ) (xs : List ℕ) → readLine field text at k ≡ value xs → at + fieldBytes * k < length text
 unfolding readLine judgeLineEnd
-line-ends field text at k xs e = go (truth (eqb (getD text (at + 6 * k) 0) 10)) (order (at + 6 * k) (length text))
+line-ends field text at k xs e = go (truth (eqb (getD text (at + fieldBytes * k) 0) lineEnd)) (order (at + fieldBytes * k) (length text))
   where
     f : readFields field text at k ≡ value xs
     f = fields-of field text at k xs e
 
-    go : Truth (eqb (getD text (at + 6 * k) 0) 10) → Order (at + 6 * k) (length text) → at + 6 * k < length text
+    go : Truth (eqb (getD text (at + fieldBytes * k) 0) lineEnd) → Order (at + fieldBytes * k) (length text) → at + fieldBytes * k < length text
     go t (less _ l) = l
-    go (holds t) (more _ l) = absurd (omega (arith, eqb-true (getD text (at + 6 * k) 0) 10 t, List·getD-eq-default text 0 {n = at + 6 * k} l))
+    go (holds t) (more _ l) = absurd (omega (arith, eqb-true (getD text (at + fieldBytes * k) 0) lineEnd t, List·getD-eq-default text 0 {n = at + fieldBytes * k} l))
     go (fails t) (more _ l) = let bad : refused 3 ≡ value xs = simp (f, t) at e in let z : _≡_ {A = ℕ} 0 1 = cc in absurd (omega arith)
 
 judged-value : (cause : List ℕ → ℕ) (r : Read (List ℕ)) (xs : List ℕ) → judged cause r ≡ value xs → r ≡ value xs
@@ -60,7 +60,7 @@ judged-value cause (value ys) xs e = go (require (cause ys)) e
     go (value u) p = p
 
 -- the next line begins in the text, or at its end
-pub line-end-in : (field : FieldReading) (cause : List ℕ → ℕ) (text : List ℕ) (at k : ℕ) (xs : List ℕ) → judged cause (readLine field text at k) ≡ value xs → at + (6 * k + 1) ≤ length text
+pub line-end-in : (field : FieldReading) (cause : List ℕ → ℕ) (text : List ℕ) (at k : ℕ) (xs : List ℕ) → judged cause (readLine field text at k) ≡ value xs → at + lineBytes k ≤ length text
 line-end-in field cause text at k xs e = omega (arith, line-ends field text at k xs (judged-value cause (readLine field text at k) xs e))
 
 -- ---- the loop
@@ -92,10 +92,9 @@ rows-begun text at m table e h =
       inside = h;
     }
 
-module _ (text : List ℕ) (at m i place : ℕ) (table : List ℕ) (g : RowsGoing text at m i place table) (small : m ≤ 24) (more-left : i < m) where
+module _ (text : List ℕ) (at m i place : ℕ) (table : List ℕ) (g : RowsGoing text at m i place table) (small : m ≤ maxSize) (more-left : i < m) where
   pub rows-turn : (c k : ℕ) (part : List ℕ) → k ≡ m → Came (judged (judgeRow i) (readLine lengthAt text place k)) c (λ xs. part ≡ xs) → c ≡ 0 → length part ≡ m
-      → RowsGoing text at m (i + 1) (place + (6 * m + 1)) (put table (rowPlaces * i) part)
-  unfolding lineBytes
+      → RowsGoing text at m (i + 1) (place + lineBytes m) (put table (rowPlaces * i) part)
   rows-turn c n part same came z long =
       let d = (rw same at came) .done z in
       let e : judged (judgeRow i) (readLine lengthAt text place m) ≡ value part = d .1 ∙ ap value (sym (d .2)) in

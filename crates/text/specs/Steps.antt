@@ -10,7 +10,7 @@ use Prim.Native.Nat.{ℕ, suc, _+_, _-_, _*_, _≤_, _<_}
 use native.Mathlib.Omega.{arith}
 use lib.ListN.{getD, length, take, List·getD-eq-default}
 use lib.Seq.{take-all}
-use Rattle.definitions.specs.Text.{noField, FieldReading, Read, refused, value, readFields, readLine}
+use Rattle.definitions.specs.Text.{lineEnd, fieldBytes, noField, FieldReading, Read, refused, value, readFields, readLine}
 use Rattle.text.specs.Outcomes.{Came}
 use Rattle.text.specs.Reading.{judged, judged-go, judged-out, judged-stop, after, Inside, fields-stop, fields-in, line-go, line-stop, line-open}
 
@@ -44,16 +44,16 @@ module _ (field : FieldReading) (text : List ℕ) (at k c : ℕ) (out : List ℕ
     read : readFields field text at k ≡ value out
     read = let d = came .done ok in d .1 ∙ ap value (sym (d .2))
 
-    pub line-in : Inside field → at ≤ length text → at + 6 * k ≤ length text
+    pub line-in : Inside field → at ≤ length text → at + fieldBytes * k ≤ length text
     line-in inside h = fields-in field inside text at k out read h
 
-    pub line-other : getD text (at + 6 * k) 0 ≢ 10 → Came (readLine field text at k) 3 (λ xs. out ≡ xs)
+    pub line-other : getD text (at + fieldBytes * k) 0 ≢ lineEnd → Came (readLine field text at k) 3 (λ xs. out ≡ xs)
     line-other h = let three : _≢_ {A = ℕ} 3 0 = λ w. omega arith in came-out (readLine field text at k) (λ xs. out ≡ xs) 3 three (line-open field text at k out read h)
 
-    pub line-short : length text ≤ at + 6 * k → Came (readLine field text at k) 3 (λ xs. out ≡ xs)
-    line-short h = line-other (λ e. omega (arith, List·getD-eq-default text 0 {n = at + 6 * k} h))
+    pub line-short : length text ≤ at + fieldBytes * k → Came (readLine field text at k) 3 (λ xs. out ≡ xs)
+    line-short h = line-other (λ e. omega (arith, List·getD-eq-default text 0 {n = at + fieldBytes * k} h))
 
-    pub line-closed : getD text (at + 6 * k) 0 ≡ 10 → Came (readLine field text at k) 0 (λ xs. out ≡ xs)
+    pub line-closed : getD text (at + fieldBytes * k) 0 ≡ lineEnd → Came (readLine field text at k) 0 (λ xs. out ≡ xs)
     line-closed h = came-go (readLine field text at k) (λ xs. out ≡ xs) out (line-go field text at k out read h) refl
 
 -- ---- judged

@@ -8,7 +8,7 @@ ghost use lib.ListN.{length, replicate};
 ghost use Rattle.definitions.specs.Limits.{maxSize, sizePlaces, tablePlaces};
 ghost use Rattle.definitions.specs.Network.{Piece};
 ghost use Rattle.definitions.specs.Judgement.{judgeSize, judgeVertices, judgeRow};
-ghost use Rattle.definitions.specs.Text.{fieldBytes, fieldAt, lengthAt, readField, readFields, readLine, readRows, readPiece, readPieces, readBody, readPlan};
+ghost use Rattle.definitions.specs.Text.{fieldBytes, lineBytes, fieldAt, lengthAt, readField, readFields, readLine, readRows, readPiece, readPieces, readBody, readPlan};
 ghost use Rattle.definitions.specs.Entries.{readRefusal, reading};
 ghost use Rattle.text.specs.Outcomes.{Came, RowsLeft};
 ghost use Rattle.text.specs.Reading.{judged, readSized};
@@ -304,7 +304,7 @@ fn read_body(
     vertices: &mut [u32],
     lengths: &mut [u32],
 ) -> ReadAnswer
-    requires { ⌜ (13 ≤ length (now text)) × Held [] (now sizes) (now vertices) (now lengths) ⌝ }
+    requires { ⌜ (lineBytes 2 ≤ length (now text)) × Held [] (now sizes) (now vertices) (now lengths) ⌝ }
     ensures { λ r. ⌜ PlanRead (readBody (now (text .entry)) n p) r (now (sizes .exit)) (now (vertices .exit)) (now (lengths .exit)) ⌝ }
 {
     let bounds = checks::judge_bounds(n, p);

@@ -7,13 +7,13 @@ use borrow.Author.Needs.{needs}
 use lib.ListN.{length, take}
 use lib.Seq.{length-take-le}
 use Rattle.definitions.specs.Limits.{linePlaces}
-use Rattle.definitions.specs.Entries.{nineColumns}
+use Rattle.definitions.specs.Entries.{columnBytes, nineColumns}
 use Rattle.answer.specs.Lines.{fields-turn, fields-all}
 use Rattle.answer.proofs.put_fields.Statement.{statement}
 use Rattle.answer.proofs.put_fields.Tie as tie
 
 abbrev Inv-loop : tie.InvT-loop
-Inv-loop out at numbers line₀ i₀ line i = (i ≤ length numbers) × (length line ≡ linePlaces) × (take (9 * i) line ≡ flatMap nineColumns (take i numbers))
+Inv-loop out at numbers line₀ i₀ line i = (i ≤ length numbers) × (length line ≡ linePlaces) × (take (columnBytes * i) line ≡ flatMap nineColumns (take i numbers))
 
 abbrev μ-loop : tie.MeasureT-loop
 μ-loop out at numbers line₀ i₀ line i = length numbers - i
@@ -56,12 +56,12 @@ array-share-prefix-line c = search needs
 slice-aggregate-put-line : tie.Need-slice-aggregate-put-line Inv-loop μ-loop
 slice-aggregate-put-line c =
     let l = c .before .before .before .loop in
-    sym (length-take-le (9 * l .i) (l .line) (omega arith))
+    sym (length-take-le (columnBytes * l .i) (l .line) (omega arith))
 
 put-line-requires : tie.Need-put-line-requires Inv-loop μ-loop
 put-line-requires c κs =
     let l = c .before .before .before .loop in
-    omega (arith, length-take-le (9 * l .i) (l .line) (omega arith))
+    omega (arith, length-take-le (columnBytes * l .i) (l .line) (omega arith))
 
 same-length : tie.Need-same-length Inv-loop μ-loop
 same-length c = search needs

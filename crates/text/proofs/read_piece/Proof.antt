@@ -2,7 +2,8 @@
 use Prim.Native.Nat.{_+_, _*_, _≤_}
 use native.Mathlib.Omega.{arith}
 use borrow.Author.Needs.{needs}
-use Rattle.text.specs.Pieces.{Sized, size-facts, sizes-long, free-of, piece-unsized, piece-unread, piece-read, table-few}
+use Rattle.definitions.specs.Text.{lineBytes}
+use Rattle.text.specs.Pieces.{Sized, size-facts, sizes-long, free-of, piece-unsized, piece-unread, piece-read, maxTableBytes, table-few}
 use Rattle.text.proofs.read_piece.Statement.{statement}
 use Rattle.text.proofs.read_piece.Tie as tie
 
@@ -10,8 +11,8 @@ use Rattle.text.proofs.read_piece.Tie as tie
 size-in : (c : tie.Else1) → Sized (c .before .before .before .before .before .before .args .text .now) (c .before .before .before .before .before .before .args .at) (c .before .read-size .result .m)
 size-in c = size-facts _ _ _ _ (c .before .read-size .ensures) (c .if1 .left)
 
--- the table's lines are few bytes
-table-in : (c : tie.Else1) → c .before .read-size .result .m * (6 * c .before .read-size .result .m + 1) ≤ 3480
+-- the table's lines are no more bytes than those of the largest table
+table-in : (c : tie.Else1) → c .before .read-size .result .m * lineBytes (c .before .read-size .result .m) ≤ maxTableBytes
 table-in c = table-few (c .before .read-size .result .m) (size-in c .high)
 
 read-size-requires : tie.Need-read-size-requires

@@ -4,6 +4,7 @@ use mathlib.Core.Logic.{_≢_}
 use Prim.Native.Nat.{_+_}
 use native.Mathlib.Omega.{arith}
 use lib.ListN.{length}
+use Rattle.definitions.specs.Text.{lineBytes}
 use Rattle.text.specs.Plans.{question-line, question-source, question-open, question-done}
 use borrow.Author.Needs.{needs}
 use Rattle.text.proofs.read_question.Statement.{statement}
@@ -34,14 +35,14 @@ returns-3 : tie.Need-returns-3
 returns-3 c =
     let a = c .before .before .before .before .before .before .before .before .args in
     let r = c .before .before .before .before .before .read-line in
-    let short : length (a .text .now) ≢ a .at + 7 = λ e. c .if3 .taken (omega arith) in
+    let short : length (a .text .now) ≢ a .at + lineBytes 1 = λ e. c .if3 .taken (omega arith) in
     question-open _ _ _ _ _ (r .ensures) _ refl (c .before .before .before .if1 .left) _ (c .before .before .judge-source .ensures) (c .before .if2 .left) short
 
 returns-4 : tie.Need-returns-4
 returns-4 c =
     let a = c .before .before .before .before .before .before .before .before .args in
     let r = c .before .before .before .before .before .read-line in
-    let closed : length (a .text .now) ≡ a .at + 7 = omega arith in
+    let closed : length (a .text .now) ≡ a .at + lineBytes 1 = omega arith in
     question-done _ _ _ _ _ (r .ensures) _ refl (c .before .before .before .if1 .left) _ (c .before .before .judge-source .ensures) (c .before .if2 .left) closed
 
 pub read-question-spec : {M : Type 1} → statement M

@@ -5,7 +5,7 @@ use native.Mathlib.Omega.{arith}
 use borrow.Author.Needs.{needs}
 use lib.ListN.{length, length-replicate}
 use Rattle.text.specs.Buffers.{part-size, part-long, part-put, part-kept}
-use Rattle.definitions.specs.Limits.{tablePlaces}
+use Rattle.definitions.specs.Limits.{rowPlaces, tablePlaces}
 use Rattle.text.specs.Rows.{RowsGoing, rows-begun, rows-turn, rows-broken, rows-ended}
 use Rattle.text.proofs.read_rows.Statement.{statement}
 use Rattle.text.proofs.read_rows.Tie as tie
@@ -20,7 +20,7 @@ table-long : (s : tie.Start Inv-loop μ-loop) → length (s .args .table .now) �
 table-long s = ap length (s .pre .2) ∙ length-replicate {A = ℕ} tablePlaces 0
 
 -- row i lies in the table
-row-fits : (c : tie.In-loop Inv-loop μ-loop) → 24 * c .before .loop .i + c .before .before .before .before .args .m ≤ length (c .before .loop .table)
+row-fits : (c : tie.In-loop Inv-loop μ-loop) → rowPlaces * c .before .loop .i + c .before .before .before .before .args .m ≤ length (c .before .loop .table)
 row-fits c = omega (arith, c .loop-test .taken, c .before .before .before .before .pre .1, c .before .loop .inv .1)
 
 loop-holds : tie.Need-loop-holds Inv-loop μ-loop
@@ -82,9 +82,9 @@ loop-again c =
     let r = c .before .before .before .read-row in
     let part = r .last .1 .1 .1 .0 in
     let lent = c .before .before .table .given .0 in
-    let long = part-long (24 * l .i) (s .args .m) (l .table) part lent (row-fits t) in
+    let long = part-long (rowPlaces * l .i) (s .args .m) (l .table) part lent (row-fits t) in
     let g = rows-turn _ _ _ _ _ _ (l .inv .2) (s .pre .1) (t .loop-test .taken) _ _ part (part-size _ _ _ (row-fits t)) (r .ensures) (c .if1 .left) long in
-    (search needs, part-kept _ _ _ part lent (row-fits t) ∙ l .inv .1, rw (part-put (24 * l .i) (s .args .m) (l .table) part lent (row-fits t)) g)
+    (search needs, part-kept _ _ _ part lent (row-fits t) ∙ l .inv .1, rw (part-put (rowPlaces * l .i) (s .args .m) (l .table) part lent (row-fits t)) g)
 
 same-length-2 : tie.Need-same-length-2 Inv-loop μ-loop
 same-length-2 c = search needs

@@ -4,15 +4,16 @@ use mathlib.Core.Path.{_≡_}
 use native.Mathlib.Omega.{arith}
 use borrow.Author.Needs.{needs}
 use lib.ListN.{length}
+use Rattle.definitions.specs.Limits.{rowPlaces, tablePlaces}
 use Rattle.text.specs.Buffers.{part-size, part-long, part-put}
 use Rattle.text.specs.Pieces.{rows-place, sized-unlisted, sized-read}
 use Rattle.text.proofs.read_sized.Statement.{statement}
 use Rattle.text.proofs.read_sized.Tie as tie
 
-vertices-fit : (s : tie.Start) → 24 * s .args .d + s .args .m ≤ length (s .args .vertices .now)
+vertices-fit : (s : tie.Start) → rowPlaces * s .args .d + s .args .m ≤ length (s .args .vertices .now)
 vertices-fit s = omega (arith, s .pre .1, s .pre .3, s .pre .4 .all-vertices)
 
-lengths-fit : (s : tie.Start) → 576 * s .args .d + 576 ≤ length (s .args .lengths .now)
+lengths-fit : (s : tie.Start) → tablePlaces * s .args .d + tablePlaces ≤ length (s .args .lengths .now)
 lengths-fit s = omega (arith, s .pre .1, s .pre .4 .all-lengths)
 
 mul-a : tie.Need-mul-a
@@ -86,7 +87,7 @@ read-table-requires : tie.Need-read-table-requires
 read-table-requires c κs =
     let w = c .before .before .before .before in
     let s = w .before .before .before .before .before in
-    let all : 576 * s .args .d + 576 - 576 * s .args .d ≡ 576 = omega arith in
+    let all : tablePlaces * s .args .d + tablePlaces - tablePlaces * s .args .d ≡ tablePlaces = omega arith in
     (rows-place _ _ _ _ _ _ _ (part-size _ _ _ (vertices-fit s)) (w .read-vertices .ensures) (c .before .if1 .left), s .pre .2, s .pre .3, rw all (s .pre .4 .clear))
 
 same-length-2 : tie.Need-same-length-2
@@ -102,8 +103,8 @@ returns-2 c =
     let s = w .before .before .before .before .before in
     let vs = w .read-vertices .last .1 .1 .1 .0 in
     let lent = c .before .before .before .before .before .before .vertices .given .0 in
-    let put-vertices = part-put (24 * s .args .d) (s .args .m) (s .args .vertices .now) vs lent (vertices-fit s) in
-    let put-table = part-put (576 * s .args .d) 576 (s .args .lengths .now) (t .read-table .last .1 .1 .1 .0) (c .before .lengths .given .0) (lengths-fit s) in
+    let put-vertices = part-put (rowPlaces * s .args .d) (s .args .m) (s .args .vertices .now) vs lent (vertices-fit s) in
+    let put-table = part-put (tablePlaces * s .args .d) tablePlaces (s .args .lengths .now) (t .read-table .last .1 .1 .1 .0) (c .before .lengths .given .0) (lengths-fit s) in
     rw (put-vertices, put-table)
     (sized-read _ _ _ _ _ _ _ (part-size _ _ _ (vertices-fit s)) (w .read-vertices .ensures) (c .before .before .before .before .if1 .left) (part-long _ _ _ vs lent (vertices-fit s)) _ _ (t .read-table .ensures) (s .pre .2) (s .pre .3) _ _ _)
 
