@@ -12,28 +12,28 @@ impl Network {
 
     pub const MAX_LENGTH: u32 = 99999;
 
-    pub const MAX_LABEL: u32 = 25499745;
+    pub const MAX_LABEL: u32 = (Network::MAX_VERTICES - 1) * Network::MAX_LENGTH;
 
     // for a vertex that is not reached, and for a row that is not activated
     pub const UNREACHED: u32 = 4294967295;
 
     // the places of one row
-    pub const ROW_PLACES: usize = 24;
+    pub const ROW_PLACES: usize = Network::MAX_SIZE as usize;
 
     // the places of one piece's table
-    pub const TABLE_PLACES: usize = 576;
+    pub const TABLE_PLACES: usize = Network::ROW_PLACES * Network::ROW_PLACES;
 
     // the sizes of all pieces
-    pub const SIZE_PLACES: usize = 16;
+    pub const SIZE_PLACES: usize = Network::MAX_PIECES as usize;
 
     // the vertices of all pieces
-    pub const VERTEX_PLACES: usize = 384;
+    pub const VERTEX_PLACES: usize = Network::SIZE_PLACES * Network::ROW_PLACES;
 
     // the tables of all pieces
-    pub const LENGTH_PLACES: usize = 9216;
+    pub const LENGTH_PLACES: usize = Network::SIZE_PLACES * Network::TABLE_PLACES;
 
     // the labels of all vertices
-    pub const LABEL_PLACES: usize = 256;
+    pub const LABEL_PLACES: usize = Network::MAX_VERTICES as usize;
 }
 
 // The layout of a text.

@@ -1,11 +1,12 @@
 -- The limits and bounds of document 01, one definition each, and the two operations on lengths.
 --   maxVertices maxPieces maxSize maxLength maxLabel   of a network
 --   maxSide maxCalls maxText                           of a session and of a text
---   sizePlaces .. linePlaces, lastPlace                the sizes of the lent buffers; the last place of a line
+--   rowPlaces .. linePlaces, lastPlace                 the sizes of the lent buffers; the last place of a line
+--   callSize answerSize intervalSize                   how many numbers a call, an answer and an interval are
 --   unreached unusedInterval                           what stands where there is no label, no interval
 --   sum below                                          a label and a length; the order of sums
 use mathlib.Core.Bool.{Bool}
-use Prim.Native.Nat.{ℕ, _+_}
+use Prim.Native.Nat.{ℕ, _+_, _-_, _*_}
 use lib.Dec.{ltb}
 
 -- "n from 1 to 256; p from 1 to 16; m from 1 to 24; a length from 0 to 99,999"
@@ -23,7 +24,7 @@ maxLength = 99999
 
 -- "A label is then at most 255 × 99,999 = 25,499,745"; the limit of a told value too
 abbrev pub maxLabel : ℕ
-maxLabel = 25499745
+maxLabel = (maxVertices - 1) * maxLength
 
 -- "A session holds a rectangle of 1 to 24 rows and 1 to 24 columns, 0 to 64 calls"
 abbrev pub maxSide : ℕ
@@ -36,39 +37,50 @@ maxCalls = 64
 abbrev pub maxText : ℕ
 maxText = 60000
 
--- "16 district sizes, 384 gates (24 for each district) and 9,216 lengths (24 rows of 24 each)"
-abbrev pub sizePlaces : ℕ
-sizePlaces = 16
-
-abbrev pub vertexPlaces : ℕ
-vertexPlaces = 384
-
-abbrev pub lengthPlaces : ℕ
-lengthPlaces = 9216
-
--- the places of one row and of one piece in the buffers above
+-- the places of one row and of one district's table in the buffers below
 abbrev pub rowPlaces : ℕ
-rowPlaces = 24
+rowPlaces = maxSize
 
 abbrev pub tablePlaces : ℕ
-tablePlaces = 576
+tablePlaces = maxSize * rowPlaces
+
+-- "16 district sizes, 384 gates (24 for each district) and 9,216 lengths (24 rows of 24 each)"
+abbrev pub sizePlaces : ℕ
+sizePlaces = maxPieces
+
+abbrev pub vertexPlaces : ℕ
+vertexPlaces = maxPieces * rowPlaces
+
+abbrev pub lengthPlaces : ℕ
+lengthPlaces = maxPieces * tablePlaces
 
 -- "The label buffer has 256 places"
 abbrev pub labelPlaces : ℕ
-labelPlaces = 256
+labelPlaces = maxVertices
+
+-- "Each call is (kind, row, value)"; "Each answer is (code, column, sum)"; "An interval is (owner, first column, last column)"
+abbrev pub callSize : ℕ
+callSize = 3
+
+abbrev pub answerSize : ℕ
+answerSize = 3
+
+abbrev pub intervalSize : ℕ
+intervalSize = 3
 
 -- "Lent sizes: rectangle 576 (24 rows of 24), calls 192, answers 192 (unused places 0), intervals 72"
 abbrev pub rectanglePlaces : ℕ
-rectanglePlaces = 576
+rectanglePlaces = maxSide * rowPlaces
 
 abbrev pub callPlaces : ℕ
-callPlaces = 192
+callPlaces = callSize * maxCalls
 
 abbrev pub answerPlaces : ℕ
-answerPlaces = 192
+answerPlaces = answerSize * maxCalls
 
+-- no two intervals share a column
 abbrev pub intervalPlaces : ℕ
-intervalPlaces = 72
+intervalPlaces = intervalSize * maxSide
 
 -- "the lent line, 36 bytes with four places counted from 0"
 abbrev pub linePlaces : ℕ
