@@ -23,38 +23,14 @@ loop-holds c =
     let z : length (a .out .now) - 0 ≡ length (a .out .now) = (omega arith) in
     (search needs, search needs, search needs, rw z (sym (after-none (readFields fieldAt (a .text .now) (a .at) (length (a .out .now))))))
 
-field-at-requires : tie.Need-field-at-requires Inv-loop μ-loop
-field-at-requires c κs = search needs
-
-enum-known-field : tie.Need-enum-known-field Inv-loop μ-loop
-enum-known-field c = search needs
-
 enum-told : tie.Need-enum-told Inv-loop μ-loop
 enum-told c = search needs
-
-same-length : tie.Need-same-length Inv-loop μ-loop
-same-length c = search needs
 
 returns : tie.Need-returns Inv-loop μ-loop
 returns c =
     let l = c .before .before .before .before .loop in
     let h = c .before .before .before .loop-test .taken in
     fields-broken fieldAt _ _ _ (l .i) (l .place) (l .out) (l .inv .3) (search needs) (sym (c .before .before .field-at .ensures) ∙ ap fieldAnswer (c .enum-told .given .1))
-
-mul-out : tie.Need-mul-out Inv-loop μ-loop
-mul-out c = search needs
-
-slice-write-out : tie.Need-slice-write-out Inv-loop μ-loop
-slice-write-out c = search needs
-
-add-place : tie.Need-add-place Inv-loop μ-loop
-add-place c = search needs
-
-add-i : tie.Need-add-i Inv-loop μ-loop
-add-i c = search needs
-
-loop-less : tie.Need-loop-less Inv-loop μ-loop
-loop-less c = search needs
 
 loop-again : tie.Need-loop-again Inv-loop μ-loop
 loop-again c =
@@ -65,9 +41,6 @@ loop-again c =
     let p = field-inside (a .text .now) (l .place) (ap (λ (r : FieldAnswer). r .number) f) in
     (search needs, search needs, p, fields-turn fieldAt (a .text .now) (a .at) (length (a .out .now)) (l .i) (l .place) x (l .out) (omega arith) (l .inv .1) f (l .inv .3))
 
-same-length-2 : tie.Need-same-length-2 Inv-loop μ-loop
-same-length-2 c = search needs
-
 returns-2 : tie.Need-returns-2 Inv-loop μ-loop
 returns-2 c =
     let l = c .before .loop in
@@ -75,21 +48,5 @@ returns-2 c =
 
 pub read-fields-spec : {M : Type 1} → statement M
 read-fields-spec =
-    tie.close
-    (tie.spec
-    Inv-loop
-    μ-loop
-    loop-holds
-    field-at-requires
-    enum-known-field
-    enum-told
-    same-length
-    returns
-    mul-out
-    slice-write-out
-    add-place
-    add-i
-    loop-less
-    loop-again
-    same-length-2
-    returns-2)
+    tie.close (tie.spec Inv-loop μ-loop loop-holds (search needs) (search needs) enum-told (search needs) returns (search needs)
+    (search needs) (search needs) (search needs) (search needs) loop-again (search needs) returns-2)

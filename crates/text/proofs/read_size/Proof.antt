@@ -11,12 +11,6 @@ use borrow.Author.Needs.{needs}
 use Rattle.text.proofs.read_size.Statement.{statement}
 use Rattle.text.proofs.read_size.Tie as tie
 
-field-at-requires : tie.Need-field-at-requires
-field-at-requires c κs = search needs
-
-enum-known-field : tie.Need-enum-known-field
-enum-known-field c = search needs
-
 enum-told : tie.Need-enum-told
 enum-told c = search needs
 
@@ -27,9 +21,6 @@ returns c =
     let three : _≢_ {A = ℕ} 3 0 = λ w. omega arith in
     came-out _ _ 3 three (judged-stop judgeSize _ 3 e)
 
-judge-size-requires : tie.Need-judge-size-requires
-judge-size-requires c κs = search needs
-
 returns-2 : tie.Need-returns-2
 returns-2 c =
     let a = c .before .before .before .before .before .before .args in
@@ -38,5 +29,4 @@ returns-2 c =
 
 pub read-size-spec : {M : Type 1} → statement M
 read-size-spec =
-    tie.close
-    (tie.spec field-at-requires enum-known-field enum-told returns judge-size-requires returns-2)
+    tie.close (tie.spec (search needs) (search needs) enum-told returns (search needs) returns-2)
