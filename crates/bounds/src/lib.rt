@@ -46,24 +46,26 @@ impl Text {
     pub const FIELD_BYTES: usize = 6;
 
     // the bytes of a line of one field, with its byte 10
-    pub const LINE_OF_ONE: usize = 7;
+    pub const LINE_OF_ONE: usize = Text::FIELD_BYTES + 1;
 
     // the bytes of a line of two fields, with its byte 10
-    pub const LINE_OF_TWO: usize = 13;
+    pub const LINE_OF_TWO: usize = 2 * Text::FIELD_BYTES + 1;
 }
 
 // The layout of a line that is written.
 pub struct Line;
 
 impl Line {
-    // four places for fields
-    pub const BYTES: usize = 36;
+    // places for fields
+    pub const PLACES: usize = 4;
 
     // the bytes of a field
     pub const FIELD_BYTES: usize = 9;
 
+    pub const BYTES: usize = Line::PLACES * Line::FIELD_BYTES;
+
     // counted from 0
-    pub const LAST_PLACE: usize = 3;
+    pub const LAST_PLACE: usize = Line::PLACES - 1;
 }
 
 // The numbers of the causes that turn an input away.

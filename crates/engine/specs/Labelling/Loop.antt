@@ -17,7 +17,7 @@ use Rattle.definitions.specs.Lists.{total}
 use Rattle.definitions.specs.Model.{nobody, by}
 use Rattle.definitions.specs.Network.{Piece}
 use Rattle.definitions.specs.Blocks.{Block, noBlock, blocks}
-use Rattle.definitions.specs.Labelling.{BlockState, extraction, freshBlock, activateVertex, State, labelOf, chosen, advance, steps, start, columns, labelling, reached, extractions, insertions, labels}
+use Rattle.definitions.specs.Labelling.{BlockState, extraction, freshBlock, activateVertex, settledAt, State, labelOf, chosen, advance, steps, start, columns, labelling, reached, extractions, insertions, labels}
 use Rattle.definitions.specs.Entries.{labelAnswer}
 use Rattle.definitions.specs.declared.LabelAnswer.{LabelAnswer}
 use Rattle.basics.specs.Lists.{every-at, every-all}
@@ -235,12 +235,12 @@ module _ (matrix : List (List ℕ)) (parts places firsts sizes vertices : List �
         unfolding reached insertions
         turn-new values″ heaps″ words″ m′ settles =
             let z = settles vertices qs after vertex-given in
-            let e : steps (k + 1) (start bs source) ≡ record { blocks = map (activateVertex v s) after; settled = st .settled ++ record { vertex = v; label = s } ∷ [] }
+            let e : steps (k + 1) (start bs source) ≡ record { blocks = map (activateVertex v s) after; settled = st .settled ++ settledAt v s ∷ [] }
             = rw (t .vertex-is) at (next ∙ advance-new st i c s first (t .here) (rw (t .vertex-is) unsettled)) in
             record {
               running = rw e (z .kept);
               shows = ap (λ (xs : List ℕ). set xs (v - 1) s) (g .shows) ∙ sym (labels-set st (steps (k + 1) (start bs source)) v s unsettled (ap (λ (x : State). x .settled) e) (known .0) (known .1));
-              reached-is = rw e (omega (arith, g .reached-is, length-append (st .settled) (record { vertex = v; label = s } ∷ [])));
+              reached-is = rw e (omega (arith, g .reached-is, length-append (st .settled) (settledAt v s ∷ [])));
               extracted-is = one-more;
               inserted-is = rw e (sym (z .counted ∙ omega (arith, counted)));
             }
