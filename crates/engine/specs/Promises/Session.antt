@@ -32,7 +32,7 @@ stepOf rows cols m k = step (entry rows 0) (length rows) cols m k
 
 -- code, column and sum of what a call returns
 abbrev pub answerIn : Called → Answer
-answerIn r = record { code = r .code; column = r .column; total = r .total }
+answerIn r = record { code = r .code; column = r .column; sum = r .sum }
 
 -- The call k on the model m returns r and leaves these words and labels: they are those of the next model; the answer and the counts are the model's.
 pub record Steps (rows : List (List ℕ)) (cols : ℕ) (m : Model) (k : Call) (heap labels : List ℕ) (r : Called) : Type 0 where
