@@ -11,10 +11,10 @@ use native.Mathlib.Omega.{arith}
 use borrow.Author.Tests.{eq-eqb, le-leb}
 use lib.ListN.{getD, length, take, drop, length-append}
 use lib.Seq.{take-at, take-all, take-suc, length-take-le}
-use Rattle.definitions.specs.Limits.{linePlaces, lastPlace}
+use Rattle.definitions.specs.Limits.{columnBytes, lineFields, linePlaces, lastPlace}
 use Rattle.definitions.specs.Lists.{upFrom, firstCause}
 use Rattle.definitions.specs.Text.{blank, lineEnd}
-use Rattle.definitions.specs.Entries.{columnBytes, hasPlaces, decimal, nineColumns, judgeWrite, writeField, listingLine, refusalLine}
+use Rattle.definitions.specs.Entries.{hasPlaces, decimal, nineColumns, judgeWrite, writeField, listingLine, refusalLine}
 use Rattle.fields.specs.Writing.{length-nineColumns, maxDigits, decimal-few}
 use Rattle.basics.specs.Buffers.{flatMap-snoc, put, put-nothing}
 use Rattle.answer.specs.Listing.{listingLineBytes}
@@ -32,7 +32,7 @@ length-line xs = length-append (flatMap nineColumns xs) (lineEnd ∷ []) ∙ ome
 -- ---- the fields of a line
 
 -- one field more
-pub fields-turn : (line numbers : List ℕ) (i : ℕ) → length line ≡ linePlaces → length numbers ≤ suc lastPlace → i < length numbers → take (columnBytes * i) line ≡ flatMap nineColumns (take i numbers)
+pub fields-turn : (line numbers : List ℕ) (i : ℕ) → length line ≡ linePlaces → length numbers ≤ lineFields → i < length numbers → take (columnBytes * i) line ≡ flatMap nineColumns (take i numbers)
     → take (columnBytes * (i + 1)) ((writeField line i (getD numbers i 0)) .line) ≡ flatMap nineColumns (take (i + 1) numbers)
 unfolding writeField judgeWrite hasPlaces firstCause
 fields-turn line numbers i long few h e =

@@ -1,9 +1,9 @@
 // The listing of a text: what the program `labels` writes for the bytes that it reads.
 ghost use mathlib.Core.Path.{_≡_};
 ghost use mathlib.Core.List.{List, [], _∷_, _++_};
-ghost use Prim.Native.Nat.{ℕ, suc, _+_, _*_, _≤_, _<_};
+ghost use Prim.Native.Nat.{ℕ, _+_, _*_, _≤_, _<_};
 ghost use lib.ListN.{length, take};
-ghost use Rattle.definitions.specs.Limits.{maxVertices, labelPlaces, lastPlace};
+ghost use Rattle.definitions.specs.Limits.{maxVertices, labelPlaces, lineFields};
 ghost use Rattle.definitions.specs.Text.{lineEnd};
 ghost use Rattle.definitions.specs.Entries.{decimal, listingLine, refusalLine};
 ghost use Rattle.answer.specs.Listing.{listingLineBytes, writeListing};
@@ -54,7 +54,7 @@ fn put_line(out: &mut [u8], at: usize, line: &[u8]) -> usize
 
 // Puts a line of up to four fields of nine columns.
 fn put_fields(out: &mut [u8], at: usize, numbers: &[u32]) -> usize
-    requires { ⌜ (length (now numbers) ≤ suc lastPlace) × (at + listingLineBytes (length (now numbers)) ≤ length (now out)) ⌝ }
+    requires { ⌜ (length (now numbers) ≤ lineFields) × (at + listingLineBytes (length (now numbers)) ≤ length (now out)) ⌝ }
     ensures { λ r. ⌜ Put (now (out .entry)) at (listingLine (now (numbers .entry))) r (now (out .exit)) ⌝ }
 {
     let mut line = [b' '; Line::BYTES];

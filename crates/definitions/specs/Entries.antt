@@ -12,7 +12,7 @@ use lib.ListN.{getD, length, take, drop, replicate}
 use Rattle.definitions.specs.declared.ReadAnswer.{ReadAnswer}
 use Rattle.definitions.specs.declared.LabelAnswer.{LabelAnswer}
 use Rattle.definitions.specs.declared.SessionAnswer.{SessionAnswer}
-use Rattle.definitions.specs.Limits.{maxLength, maxSide, maxCalls, sizePlaces, vertexPlaces, lengthPlaces, rowPlaces, labelPlaces, rectanglePlaces, callPlaces, answerPlaces, intervalPlaces, linePlaces, lastPlace, unusedInterval, callSize, answerSize}
+use Rattle.definitions.specs.Limits.{maxLength, maxSide, maxCalls, sizePlaces, vertexPlaces, lengthPlaces, rowPlaces, labelPlaces, rectanglePlaces, callPlaces, answerPlaces, intervalPlaces, callSize, answerSize, columnBytes, linePlaces, lastPlace, unusedInterval}
 use Rattle.definitions.specs.Lists.{all, upFrom, padded, within, firstCause}
 use Rattle.definitions.specs.Network.{Rectangle}
 use Rattle.definitions.specs.Blocks.{isMonge, blocks}
@@ -186,10 +186,7 @@ decimal x = digitsOf 10 x
 abbrev pub dash : ℕ
 dash = 45
 
--- "nine columns", and the largest number that they hold
-abbrev pub columnBytes : ℕ
-columnBytes = 9
-
+-- the largest number that nine columns hold
 abbrev pub maxColumn : ℕ
 maxColumn = 999999999
 

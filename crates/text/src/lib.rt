@@ -114,7 +114,7 @@ fn read_size(text: &[u8], at: usize) -> Size
     }
 }
 
-// The rows of a table, each judged as it is read, into 24 rows of 24 places that are 0.
+// The rows of a table, each judged as it is read, into the places of one table, which are 0.
 fn read_rows(text: &[u8], at: usize, m: usize, table: &mut [u32]) -> u32
     requires { ⌜ (at ≤ length (now text)) × (m ≤ maxSize) × (now table ≡ replicate tablePlaces 0) ⌝ }
     ensures { λ r. ⌜ Came (readRows (now (text .entry)) at m 0 m) r (RowsLeft (now (text .entry)) at m (now (table .exit))) ⌝ }

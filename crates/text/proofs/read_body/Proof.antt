@@ -7,7 +7,7 @@ use Rattle.text.specs.Plans.{body-bounds, body-pieces, body-question, bo
 use Rattle.text.proofs.read_body.Statement.{statement}
 use Rattle.text.proofs.read_body.Tie as tie
 
-in-bounds : (c : tie.Else1) → judgeBounds (c .before .before .before .before .before .before .args .n) (c .before .before .before .before .before .before .args .p) ≡ 0
+in-bounds : (c : tie.Else1) → let a = c .before .before .before .before .before .before .args in judgeBounds (a .n) (a .p) ≡ 0
 in-bounds c = sym (c .before .judge-bounds .ensures) ∙ c .if1 .left
 
 returns : tie.Need-returns
@@ -18,21 +18,33 @@ read-pieces-requires c κs =
     let s = c .before .before .before .before .before .before .before .before .before in
     (s .pre .0, bounds-in _ _ (in-bounds (c .before .before .before)) .1, s .pre .1)
 
+-- back from the test of what the pieces gave: to where they were read, and to where the bounds were accepted
+abbrev pieces-read : tie.After-slice-known6 → tie.After-read-pieces
+pieces-read c = c .before .before .before .before .before .before
+
+abbrev accepted : tie.After-slice-known6 → tie.Else1
+accepted c = pieces-read c .before .before .before .before
+
 returns-2 : tie.Need-returns-2
 returns-2 c =
-    rw (c .refusal2 .ensures)
-    (body-pieces _ _ _ (in-bounds (c .before .before .before .before .before .before .before .before .before .before .before .before)) _ _ _ _ _ (c .before .before .before .before .before .before .before .before .read-pieces .ensures) _ _ _ (c .before .if2 .taken))
+    let r = c .before .before in
+    rw (c .refusal2 .ensures) (body-pieces _ _ _ (in-bounds (accepted r)) _ _ _ _ _ (pieces-read r .read-pieces .ensures) _ _ _ (c .before .if2 .taken))
 
 read-question-requires : tie.Need-read-question-requires
-read-question-requires c κs = c .before .before .before .before .before .before .before .read-pieces .ensures .done (c .if2 .left) .2 .inside
+read-question-requires c κs = pieces-read (c .before) .read-pieces .ensures .done (c .if2 .left) .2 .inside
 
 returns-3 : tie.Need-returns-3
 returns-3 c =
+    let q = c .before .before in
+    let r = q .before .before in
     rw (c .refusal3 .ensures)
-    (body-question _ _ _ (in-bounds (c .before .before .before .before .before .before .before .before .before .before .before .before .before .before)) _ _ _ _ _ (c .before .before .before .before .before .before .before .before .before .before .read-pieces .ensures) (c .before .before .before .if2 .left) _ _ (c .before .before .read-question .ensures) _ _ _ (c .before .if3 .taken))
+    (body-question _ _ _ (in-bounds (accepted r)) _ _ _ _ _ (pieces-read r .read-pieces .ensures) (q .before .if2 .left) _ _ (q .read-question .ensures) _ _ _ (c .before .if3 .taken))
 
 returns-4 : tie.Need-returns-4
-returns-4 c = body-done _ _ _ (in-bounds (c .before .before .before .before .before .before .before .before .before .before .before .before .before)) _ _ _ _ _ (c .before .before .before .before .before .before .before .before .before .read-pieces .ensures) (c .before .before .if2 .left) _ _ (c .before .read-question .ensures) (c .if3 .left)
+returns-4 c =
+    let q = c .before in
+    let r = q .before .before in
+    body-done _ _ _ (in-bounds (accepted r)) _ _ _ _ _ (pieces-read r .read-pieces .ensures) (q .before .if2 .left) _ _ (q .read-question .ensures) (c .if3 .left)
 
 pub read-body-spec : {M : Type 1} → statement M
 read-body-spec =

@@ -10,19 +10,23 @@ returns c = line-refused _ _ _ _ _ _ (c .before .before .before .read-fields .en
 
 add-end : tie.Need-add-end
 add-end c =
-    let a = c .before .before .before .before .before .before .before .args in
-    let f = c .before .before .before .read-fields in
-    let h = line-in _ _ _ _ _ _ (f .ensures) (c .if1 .left) field-inside (c .before .before .before .before .before .before .before .pre) in
+    let f = c .before .before .before in
+    let s = f .before .before .before .before in
+    let h = line-in _ _ _ _ _ _ (f .read-fields .ensures) (c .if1 .left) field-inside (s .pre) in
     search needs
 
 returns-2 : tie.Need-returns-2
 returns-2 c = line-short _ _ _ _ _ _ (c .before .before .before .before .read-fields .ensures) (c .before .if1 .left) (c .if2 .taken)
 
 returns-3 : tie.Need-returns-3
-returns-3 c = line-other _ _ _ _ _ _ (c .before .before .before .before .before .before .read-fields .ensures) (c .before .before .before .if1 .left) (c .if3 .taken)
+returns-3 c =
+    let i = c .before .before .before in
+    line-other _ _ _ _ _ _ (i .before .before .before .read-fields .ensures) (i .if1 .left) (c .if3 .taken)
 
 returns-4 : tie.Need-returns-4
-returns-4 c = line-closed _ _ _ _ _ _ (c .before .before .before .before .before .before .read-fields .ensures) (c .before .before .before .if1 .left) (c .if3 .left)
+returns-4 c =
+    let i = c .before .before .before in
+    line-closed _ _ _ _ _ _ (i .before .before .before .read-fields .ensures) (i .if1 .left) (c .if3 .left)
 
 pub read-line-spec : {M : Type 1} → statement M
 read-line-spec =

@@ -19,6 +19,13 @@ loop-holds c =
     let s = c .before .before .before .before in
     (search needs, refl, refl, refl, pieces-begun _ _ _ _ _ _ _ (s .pre .2) (s .pre .0))
 
+-- back from the test of what a piece gave: to where it was read, and to the loop's turn
+abbrev piece-read : tie.After-slice-known6 Inv-loop μ-loop → tie.After-read-piece Inv-loop μ-loop
+piece-read c = c .before .before .before .before .before .before
+
+abbrev turn : tie.After-slice-known6 Inv-loop μ-loop → tie.In-loop Inv-loop μ-loop
+turn c = piece-read c .before .before .before .before
+
 read-piece-requires : tie.Need-read-piece-requires Inv-loop μ-loop
 read-piece-requires c κs =
     let p = c .before .before .before .before .before .before .before .before .before .pre in
@@ -27,15 +34,15 @@ read-piece-requires c κs =
 
 returns : tie.Need-returns Inv-loop μ-loop
 returns c =
-    let t = c .before .before .before .before .before .before .before .before .before .before .before in
+    let t = turn (c .before) in
     let g = t .before .loop .inv .4 in
-    pieces-broken _ _ _ _ _ _ _ _ _ g (t .loop-test .taken) _ _ _ (c .before .before .before .before .before .before .before .read-piece .ensures (g .pieces) (g .count) (g .held)) (c .if1 .taken)
+    pieces-broken _ _ _ _ _ _ _ _ _ g (t .loop-test .taken) _ _ _ (piece-read (c .before) .read-piece .ensures (g .pieces) (g .count) (g .held)) (c .if1 .taken)
 
 loop-again : tie.Need-loop-again Inv-loop μ-loop
 loop-again c =
-    let t = c .before .before .before .before .before .before .before .before .before .before .before in
+    let t = turn (c .before) in
     let g = t .before .loop .inv .4 in
-    let r = c .before .before .before .before .before .before .before .read-piece in
+    let r = piece-read (c .before) .read-piece in
     (search needs, search needs, search needs, search needs, pieces-turn _ _ _ _ _ _ _ _ _ g (t .loop-test .taken) _ _ _ _ _ (r .ensures (g .pieces) (g .count) (g .held)) (c .if1 .left))
 
 returns-2 : tie.Need-returns-2 Inv-loop μ-loop

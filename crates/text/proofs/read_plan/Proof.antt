@@ -8,10 +8,16 @@ returns : tie.Need-returns
 returns c = rw (c .refusal .ensures) (plan-line _ _ _ (c .before .before .before .read-line .ensures) _ _ _ (c .before .if1 .taken))
 
 read-body-requires : tie.Need-read-body-requires
-read-body-requires c κs = (line-end-in-first _ _ (c .before .before .before .before .before .read-line .ensures) (c .before .before .before .if1 .left), c .before .before .before .before .before .before .before .before .before .before .before .pre)
+read-body-requires c κs =
+    let i = c .before .before .before in
+    let l = i .before .before in
+    (line-end-in-first _ _ (l .read-line .ensures) (i .if1 .left), l .before .before .before .before .before .before .pre)
 
 returns-2 : tie.Need-returns-2
-returns-2 c = plan-body _ _ _ (c .before .before .before .before .before .before .before .before .before .before .before .before .read-line .ensures) _ _ _ (c .before .before .before .before .before .before .before .before .before .before .if1 .left) _ (c .before .before .before .before .before .before .read-body .ensures)
+returns-2 c =
+    let b = c .before .before .before .before .before .before in
+    let i = b .before .before .before .before in
+    plan-body _ _ _ (i .before .before .read-line .ensures) _ _ _ (i .if1 .left) _ (b .read-body .ensures)
 
 pub read-plan-spec : {M : Type 1} → statement M
 read-plan-spec =

@@ -18,17 +18,19 @@ returns-2 c = question-source _ _ _ _ _ (c .before .before .before .before .read
 
 returns-3 : tie.Need-returns-3
 returns-3 c =
-    let a = c .before .before .before .before .before .before .before .before .args in
-    let r = c .before .before .before .before .before .read-line in
+    let i = c .before .before .before in
+    let r = i .before .before in
+    let a = r .before .before .before .args in
     let short : length (a .text .now) ≢ a .at + lineBytes 1 = λ e. c .if3 .taken (omega arith) in
-    question-open _ _ _ _ _ (r .ensures) _ refl (c .before .before .before .if1 .left) _ (c .before .before .judge-source .ensures) (c .before .if2 .left) short
+    question-open _ _ _ _ _ (r .read-line .ensures) _ refl (i .if1 .left) _ (c .before .before .judge-source .ensures) (c .before .if2 .left) short
 
 returns-4 : tie.Need-returns-4
 returns-4 c =
-    let a = c .before .before .before .before .before .before .before .before .args in
-    let r = c .before .before .before .before .before .read-line in
+    let i = c .before .before .before in
+    let r = i .before .before in
+    let a = r .before .before .before .args in
     let closed : length (a .text .now) ≡ a .at + lineBytes 1 = omega arith in
-    question-done _ _ _ _ _ (r .ensures) _ refl (c .before .before .before .if1 .left) _ (c .before .before .judge-source .ensures) (c .before .if2 .left) closed
+    question-done _ _ _ _ _ (r .read-line .ensures) _ refl (i .if1 .left) _ (c .before .before .judge-source .ensures) (c .before .if2 .left) closed
 
 pub read-question-spec : {M : Type 1} → statement M
 read-question-spec =
