@@ -1,8 +1,8 @@
 -- Groups of `width` numbers, one behind the other from place `start` on.
---   group-ends                    a group ends before a later one begins
+--   group-ends                         a group ends before a later one begins
 --   sets-before sets-at sets-behind    what is read after numbers are stored from a place on
---   sets-more                     one number more is stored
---   stored-here stored-other      what is read from the group that is stored, and from another one
+--   sets-more                          one number more is stored
+--   stored-here stored-other           what is read from the group that is stored, and from another one
 use mathlib.Core.Path.{_≡_, refl, _∙_}
 use mathlib.Core.List.{List, [], _∷_}
 use mathlib.Core.Logic.{_≢_, ⊎-elim, _⊎_}
@@ -14,7 +14,7 @@ use lib.ListN.{length, getD, set, take, length-set}
 use lib.Seq.{take-suc, length-take-le, getD-set-same, getD-set-other, sets}
 use Rattle.layout.specs.Numbers.{sets-append}
 
-pub group-ends : (width j k : ℕ) → j < k → width * j + width ≤ width * k
+group-ends : (width j k : ℕ) → j < k → width * j + width ≤ width * k
 group-ends width j k l = omega (arith, mul-suc width j, mul-le-mul {n₁ = width} {m₁ = suc j} {n₂ = width} {m₂ = k} (omega arith) l)
 
 pub sets-before : (l xs : List ℕ) (a i : ℕ) → i < a → getD (sets l a xs) i 0 ≡ getD l i 0
@@ -23,13 +23,13 @@ sets-before l (x ∷ xs) a i h =
     let n : i ≢ a = omega arith in
     sets-before (set l a x) xs (suc a) i (omega arith) ∙ getD-set-other l a i x 0 n
 
-pub sets-behind : (l xs : List ℕ) (a i : ℕ) → a + length xs ≤ i → getD (sets l a xs) i 0 ≡ getD l i 0
+sets-behind : (l xs : List ℕ) (a i : ℕ) → a + length xs ≤ i → getD (sets l a xs) i 0 ≡ getD l i 0
 sets-behind l [] a i h = refl
 sets-behind l (x ∷ xs) a i h =
     let n : i ≢ a = omega arith in
     sets-behind (set l a x) xs (suc a) i (omega arith) ∙ getD-set-other l a i x 0 n
 
-pub sets-at : (l xs : List ℕ) (a i : ℕ) → i < length xs → a + length xs ≤ length l → getD (sets l a xs) (a + i) 0 ≡ getD xs i 0
+sets-at : (l xs : List ℕ) (a i : ℕ) → i < length xs → a + length xs ≤ length l → getD (sets l a xs) (a + i) 0 ≡ getD xs i 0
 sets-at l [] a i h r = absurd (omega arith)
 sets-at l (x ∷ xs) a zero h r = rw add-zero (sets-before (set l a x) xs (suc a) a (omega arith) ∙ getD-set-same l a x 0 (omega arith))
 sets-at l (x ∷ xs) a (suc i) h r =
