@@ -6,7 +6,7 @@
 use mathlib.Core.Path.{_≡_, refl, sym, ap, _∙_}
 use mathlib.Core.List.{List, [], _∷_, _++_, flatMap, append-nil}
 use Prim.Native.Nat.{ℕ, suc, _+_, _*_, _-_, _≤_}
-use native.Mathlib.Nat.{zero-add, mul-zero, mul-suc}
+use native.Mathlib.Nat.{zero-add, add-zero, mul-zero, mul-suc}
 use native.Mathlib.Numerals.{add-one}
 use native.Mathlib.Omega.{arith}
 use lib.ListN.{length, take, drop, replicate, length-append, length-drop, drop-of-length-le}
@@ -17,6 +17,7 @@ use Rattle.definitions.specs.Model.{Answer}
 use Rattle.definitions.specs.Entries.{answerNumbers, answerAt, answersIn, intervalNumbers}
 use Rattle.basics.specs.Buffers.{flatMap-snoc, front-sets, front-full}
 use Rattle.basics.specs.Sequences.{map-next}
+use Rattle.engine.specs.Strides.{group-behind}
 use Rattle.engine.specs.Promises.Words.{countOf, intervalAt, span, kept}
 use Rattle.engine.specs.Heap.Words.{Word, span-cut, numbers-long}
 
@@ -74,10 +75,8 @@ answers-back (x ∷ xs) rest = ap (λ (l : List Answer). x ∷ l) (map-next (ans
 
     later : (j : ℕ) → answerAt (answerNumbers x ++ behind) (suc j) ≡ answerAt behind j
     later j =
-        let a : answerSize * suc j ≡ suc (suc (suc (answerSize * j))) = omega arith in
-        let b : answerSize * suc j + 1 ≡ suc (suc (suc (answerSize * j + 1))) = omega arith in
-        let c : answerSize * suc j + 2 ≡ suc (suc (suc (answerSize * j + 2))) = omega arith in
-        rw (b, c, a)
+        let h = group-behind answerSize (answerNumbers x) behind j in
+        rw (simp add-zero at (h 0 refl), h 1 refl, h 2 refl)
 
 -- one interval more
 pub front-kept : (w before now xs : List ℕ) (k : ℕ) → xs ≡ intervalNumbers (intervalAt w k) → Front intervalSize k before (flatMap intervalNumbers (span w 0 k)) now
