@@ -3,13 +3,14 @@
 --   mark Holds       the words hold the model's intervals, the labels those of its activated rows
 use mathlib.Core.Path.{_≡_}
 use mathlib.Core.List.{List, [], _∷_}
-use Prim.Native.Nat.{ℕ, _+_, _*_, _≤_, _<_}
+use Prim.Native.Nat.{ℕ, _+_, _≤_, _<_}
 use lib.ListN.{getD, length}
 use Rattle.definitions.specs.Limits.{maxSide, maxLength, rowPlaces}
 use Rattle.definitions.specs.Lists.{Every}
 use Rattle.definitions.specs.Network.{Rectangle}
 use Rattle.definitions.specs.Blocks.{Monge}
 use Rattle.definitions.specs.Model.{Activation, Model, intervals, Reached}
+use Rattle.layout.specs.HeapWords.{heapWords}
 use Rattle.engine.specs.Promises.Words.{markOf, kept}
 
 -- the block whose rows are lent, from column col0 on
@@ -32,7 +33,7 @@ mark (a ∷ xs) = 1
 -- The words w hold the model m of that block.
 pub record Holds (w : List ℕ) (rows : List (List ℕ)) (col0 cols : ℕ) (labels : List ℕ) (m : Model) : Type 0 where
   pub checked : Checked rows col0 cols
-  pub long : 2 + 3 * cols ≤ length w
+  pub long : heapWords cols ≤ length w
   pub labelled : length rows ≤ length labels
   -- the intervals in the words are the model's in order, each once
   pub listed : kept w ≡ intervals (entry rows col0) cols m

@@ -1,0 +1,14 @@
+-- `MongeHeap::interval` reads the words of one interval.
+use mathlib.Core.Path.{refl}
+use borrow.Author.Needs.{needs}
+use Rattle.engine.specs.Promises.Words.{parentAt, firstAt, lastAt, intervalAt}
+use Rattle.engine.proofs.heap.MongeHeap.interval.Statement.{statement}
+use Rattle.engine.proofs.heap.MongeHeap.interval.Tie as tie
+
+returns : tie.Need-returns
+unfolding intervalAt parentAt firstAt lastAt
+returns c = refl
+
+pub interval-spec : {M : Type 1} → statement M
+interval-spec =
+    tie.close (tie.spec (search needs) (search needs) (search needs) (search needs) (search needs) (search needs) (search needs) (search needs) (search needs) (search needs) (search needs) returns)

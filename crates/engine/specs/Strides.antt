@@ -1,0 +1,44 @@
+-- Groups of `width` numbers, one behind the other from place `start` on.
+--   group-ends                    a group ends before a later one begins
+--   sets-before sets-at sets-behind    what is read after numbers are stored from a place on
+--   stored-here stored-other      what is read from the group that is stored, and from another one
+use mathlib.Core.Path.{_≡_, refl, _∙_}
+use mathlib.Core.List.{List, [], _∷_}
+use mathlib.Core.Logic.{_≢_, ⊎-elim, _⊎_}
+use Prim.Native.Nat.{ℕ, zero, suc, _+_, _*_, _≤_, _<_}
+use native.Mathlib.Nat.{mul-le-mul, mul-suc, add-zero}
+use native.Mathlib.Omega.{arith}
+use lib.ListN.{length, getD, set, length-set}
+use lib.Seq.{getD-set-same, getD-set-other, sets}
+
+pub group-ends : (width j k : ℕ) → j < k → width * j + width ≤ width * k
+group-ends width j k l = omega (arith, mul-suc width j, mul-le-mul {n₁ = width} {m₁ = suc j} {n₂ = width} {m₂ = k} (omega arith) l)
+
+pub sets-before : (l xs : List ℕ) (a i : ℕ) → i < a → getD (sets l a xs) i 0 ≡ getD l i 0
+sets-before l [] a i h = refl
+sets-before l (x ∷ xs) a i h =
+    let n : i ≢ a = omega arith in
+    sets-before (set l a x) xs (suc a) i (omega arith) ∙ getD-set-other l a i x 0 n
+
+pub sets-behind : (l xs : List ℕ) (a i : ℕ) → a + length xs ≤ i → getD (sets l a xs) i 0 ≡ getD l i 0
+sets-behind l [] a i h = refl
+sets-behind l (x ∷ xs) a i h =
+    let n : i ≢ a = omega arith in
+    sets-behind (set l a x) xs (suc a) i (omega arith) ∙ getD-set-other l a i x 0 n
+
+pub sets-at : (l xs : List ℕ) (a i : ℕ) → i < length xs → a + length xs ≤ length l → getD (sets l a xs) (a + i) 0 ≡ getD xs i 0
+sets-at l [] a i h r = absurd (omega arith)
+sets-at l (x ∷ xs) a zero h r = rw add-zero (sets-before (set l a x) xs (suc a) a (omega arith) ∙ getD-set-same l a x 0 (omega arith))
+sets-at l (x ∷ xs) a (suc i) h r =
+    let e : a + suc i ≡ suc a + i = omega arith in
+    rw e (sets-at (set l a x) xs (suc a) i (omega arith) (simp length-set (omega arith)))
+
+module _ (start width : ℕ) (l xs : List ℕ) (k : ℕ) (long : length xs ≡ width) where
+  pub stored-here : (i : ℕ) → i < width → start + width * k + width ≤ length l → getD (sets l (start + width * k) xs) (start + width * k + i) 0 ≡ getD xs i 0
+  stored-here i h r = sets-at l xs (start + width * k) i (omega arith) (omega arith)
+
+  pub stored-other : (j i : ℕ) → (j < k) ⊎ (k < j) → i < width → getD (sets l (start + width * k) xs) (start + width * j + i) 0 ≡ getD l (start + width * j + i) 0
+  stored-other j i o h = ⊎-elim
+      (λ (m : j < k). sets-before l xs (start + width * k) (start + width * j + i) (omega (arith, group-ends width j k m)))
+      (λ (m : k < j). sets-behind l xs (start + width * k) (start + width * j + i) (omega (arith, group-ends width k j m)))
+      o
