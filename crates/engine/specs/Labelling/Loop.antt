@@ -31,7 +31,7 @@ use Rattle.engine.specs.declared.labelling.Progress.the-variants as prog
 use Rattle.engine.specs.declared.labelling.Step.{Step}
 use Rattle.engine.specs.declared.labelling.Step.the-variants as step
 use Rattle.engine.specs.Labelling.State.{Tables, Arrays, arrays, changed, Parted, Running, callAt}
-use Rattle.engine.specs.Labelling.Counts.{activationInserts, blockInserts, maxInserted, maxExtracted}
+use Rattle.engine.specs.Labelling.Counts.{activationInserts, extractionInserts, blockInserts, maxInserted, maxExtracted}
 use Rattle.engine.specs.Labelling.Calls.{count-is, block-same}
 use Rattle.engine.specs.Labelling.Lent.{window-long}
 use Rattle.engine.specs.Labelling.Insertions.{insertedIn, inserted-set, inserted-fresh, total-most}
@@ -82,8 +82,8 @@ module _ {t : Tables} {bs : List Block} (parted : Parted t bs) where
   unfolding columns
   columns-most = omega (arith, total-most (λ (b : Block). length (b .cols)) maxSize bs (every-all _ bs noBlock (λ b l. sides b l .1)), parted .few)
 
-  inserted-most : total (map (λ b. 3 * length (b .rows) + 2 * length (b .cols)) bs) ≤ maxInserted
-  inserted-most = omega (arith, total-most (λ (b : Block). 3 * length (b .rows) + 2 * length (b .cols)) blockInserts bs (every-all _ bs noBlock (λ b l. omega (arith, sides b l))), parted .few)
+  inserted-most : total (map (λ b. activationInserts * length (b .rows) + extractionInserts * length (b .cols)) bs) ≤ maxInserted
+  inserted-most = omega (arith, total-most (λ (b : Block). activationInserts * length (b .rows) + extractionInserts * length (b .cols)) blockInserts bs (every-all _ bs noBlock (λ b l. omega (arith, sides b l))), parted .few)
 
 -- ---- after k steps
 
