@@ -1,6 +1,6 @@
--- What the prepared arrays say of the pieces of a network and of their blocks, in the terms of the labelling's functions.
+-- What the prepared tables say of the pieces of a network and of their blocks, in the terms of the labelling's functions.
 --   firstOf first-none first-all    the number of a piece's first block
---   MappedPiece Mapped              the arrays are those of these pieces
+--   MappedPiece Mapped              the tables are those of these pieces
 --   mapped                          what is prepared from a lent network that is accepted
 use mathlib.Core.Path.{_≡_, refl, sym, _∙_}
 use mathlib.Core.List.{List}
@@ -15,46 +15,49 @@ use Rattle.definitions.specs.Blocks.{windowsOf, Block, noBlock, blockOf, blocks
 use Rattle.definitions.specs.Judgement.{pieceAt, piecesOf}
 use Rattle.basics.specs.Lists.{Different, every-at}
 use Rattle.basics.specs.Sequences.{length-upFrom, getD-each}
-use Rattle.layout.specs.Layout.{sizeAt, placeCount, placeNumber, placesOf, placementsOf, partsOf, blocksUpTo, firstsOf, rowIn, colsIn, lastIn}
+use Rattle.layout.specs.Layout.{sizeAt, placementsOf, partsOf, blocksUpTo, firstsOf, rowIn, colsIn, lastIn, tableCount, tablesOf, placeIn, firstIn, sizeIn, vertexIn, piecesIn}
 use Rattle.layout.specs.Placements.{size-small, length-upTo}
 use Rattle.layout.specs.Numbering.{Fits, noWindow, noPlacement, size-is, sizeOf-is, first-is, firsts-are}
-use Rattle.layout.specs.Places.{places-long, vertex-at, found-place, place-found}
+use Rattle.layout.specs.Places.{vertex-at, found-place, place-found}
 use Rattle.layout.specs.Parts.{cols-is, last-is, row-at, placed, block-count, block-of, cols-are, row-vertex-is, column-is}
+use Rattle.layout.specs.Tables.{NumbersSame, numbers-same, tables-count, place-in, first-in, size-in, vertex-in, pieces-in}
+use Rattle.layout.specs.LayoutTheorems.{the-count, the-window}
 use Rattle.labelling_laws.specs.Acceptance.{Accepted, Suits, suits}
 use Rattle.labelling_laws.specs.OneBlock.{Fit}
 use Rattle.labelling_laws.specs.Arcs.{blocks-fit}
+use Rattle.engine.specs.Labelling.State.{Tables}
+use Rattle.engine.specs.Labelling.Begins.{tablesFor}
 
 -- the number of the first block of piece d, from 0
 unfoldable pub firstOf : List Piece → ℕ → ℕ
 firstOf qs d = length (blocks (take d qs))
 
--- piece d of the arrays is the piece q, and from block `first` on stand its blocks
-pub record MappedPiece (parts places sizes vertices : List ℕ) (bs : List Block) (first d : ℕ) (q : Piece) : Type 0 where
+-- piece d of the tables is the piece q, and from block `first` on stand its blocks
+pub record MappedPiece (t : Tables) (bs : List Block) (first d : ℕ) (q : Piece) : Type 0 where
   pub small : sizeOf q ≤ maxSize
   pub apart : Different (q .vertices)
-  pub size-is : getD sizes d 0 ≡ sizeOf q
+  pub size-is : sizeIn (t .numbers) d ≡ sizeOf q
   pub blocks-in : first + 2 * pred (sizeOf q) ≤ length bs
   pub blocks-are : (j : ℕ) → j < 2 * pred (sizeOf q) → getD bs (first + j) noBlock ≡ blockOf q (getD (windowsOf (sizeOf q)) j noWindow)
-  pub rows-at : (j : ℕ) → j < 2 * pred (sizeOf q) → rowIn parts (first + j) ≡ rowPlaces * d + getD (windowsOf (sizeOf q)) j noWindow .row0
-  pub vertex-is : (i : ℕ) → i < sizeOf q → getD (q .vertices) i 0 ≡ getD vertices (rowPlaces * d + i) 0
+  pub rows-at : (j : ℕ) → j < 2 * pred (sizeOf q) → rowIn (t .numbers) (first + j) ≡ rowPlaces * d + getD (windowsOf (sizeOf q)) j noWindow .row0
+  pub vertex-is : (i : ℕ) → i < sizeOf q → getD (q .vertices) i 0 ≡ vertexIn (t .numbers) (rowPlaces * d + i)
   -- the place of a vertex
-  pub found : (v i : ℕ) → 1 ≤ v → v ≤ maxVertices → i < sizeOf q → getD (q .vertices) i 0 ≡ v → getD places (placeNumber v d) 0 ≡ suc i
-  pub there : (v i : ℕ) → 1 ≤ v → v ≤ maxVertices → getD places (placeNumber v d) 0 ≡ suc i → (i < sizeOf q) × (getD (q .vertices) i 0 ≡ v)
+  pub found : (v i : ℕ) → 1 ≤ v → v ≤ maxVertices → i < sizeOf q → getD (q .vertices) i 0 ≡ v → placeIn (t .numbers) v d ≡ suc i
+  pub there : (v i : ℕ) → 1 ≤ v → v ≤ maxVertices → placeIn (t .numbers) v d ≡ suc i → (i < sizeOf q) × (getD (q .vertices) i 0 ≡ v)
 
-pub record Mapped (p : ℕ) (parts places firsts sizes vertices : List ℕ) (qs : List Piece) : Type 0 where
-  pub count : p ≡ length qs
-  pub few : p ≤ maxPieces
-  pub places-in : length places ≡ placeCount
-  pub firsts-in : length firsts ≡ sizePlaces
-  pub vertices-in : length vertices ≡ vertexPlaces
-  pub each : (d : ℕ) → d < p → MappedPiece parts places sizes vertices (blocks qs) (firstOf qs d) d (getD qs d noPiece)
-  pub firsts-are : (d : ℕ) → d < p → getD firsts d 0 ≡ firstOf qs d
-  pub first-next : (d : ℕ) → d < p → firstOf qs (suc d) ≡ firstOf qs d + 2 * pred (sizeOf (getD qs d noPiece))
+pub record Mapped (t : Tables) (qs : List Piece) : Type 0 where
+  pub count : piecesIn (t .numbers) ≡ length qs
+  pub few : length qs ≤ maxPieces
+  pub numbers-in : length (t .numbers) ≡ tableCount
+  pub each : (d : ℕ) → d < length qs → MappedPiece t (blocks qs) (firstOf qs d) d (getD qs d noPiece)
+  pub firsts-are : (d : ℕ) → d < length qs → firstIn (t .numbers) d ≡ firstOf qs d
+  pub first-next : (d : ℕ) → d < length qs → firstOf qs (suc d) ≡ firstOf qs d + 2 * pred (sizeOf (getD qs d noPiece))
   -- the rows and the columns of a block
   pub rows-differ : (b : ℕ) → b < length (blocks qs) → Different (getD (blocks qs) b noBlock .rows)
-  pub rows-are : (b r : ℕ) → b < length (blocks qs) → r < length (getD (blocks qs) b noBlock .rows) → getD (getD (blocks qs) b noBlock .rows) r 0 ≡ getD vertices (rowIn parts b + r) 0
+  pub rows-are : (b r : ℕ) → b < length (blocks qs) → r < length (getD (blocks qs) b noBlock .rows)
+      → getD (getD (blocks qs) b noBlock .rows) r 0 ≡ vertexIn (t .numbers) (rowIn (t .numbers) b + r)
   pub cols-are : (b c : ℕ) → b < length (blocks qs) → c < length (getD (blocks qs) b noBlock .cols)
-      → (c ≤ lastIn parts b) × (lastIn parts b < vertexPlaces) × (getD (getD (blocks qs) b noBlock .cols) c 0 ≡ getD vertices (lastIn parts b - c) 0)
+      → (c ≤ lastIn (t .numbers) b) × (lastIn (t .numbers) b < vertexPlaces) × (getD (getD (blocks qs) b noBlock .cols) c 0 ≡ vertexIn (t .numbers) (lastIn (t .numbers) b - c))
 
 pub first-none : (qs : List Piece) → firstOf qs 0 ≡ 0
 unfolding firstOf blocks
@@ -98,42 +101,59 @@ module _ (n p : ℕ) (sizes vertices lengths : List ℕ) (source : ℕ) (fits : 
       let e : (maxPieces - suc d) + suc d ≡ maxPieces = omega (arith, fits .pieces-in) in
       omega (arith, rw e at (blocks-rise p sizes (suc d) (maxPieces - suc d)), block-count p sizes vertices lengths fits, length-upTo p sizes maxPieces)
 
-  piece-mapped : (d : ℕ) → d < p → MappedPiece (partsOf p sizes) (placesOf p sizes vertices) (take p sizes) vertices (blocks qs) (firstOf qs d) d (getD qs d noPiece)
+  numbers : (b : ℕ) → b < length (blocks qs) → NumbersSame (tablesOf p sizes vertices) (partsOf p sizes) b
+  numbers b l = numbers-same p sizes vertices b (omega (arith, the-count p sizes vertices lengths fits))
+
+  abbrev t : Tables
+  t = tablesFor p sizes vertices lengths
+
+  piece-mapped : (d : ℕ) → d < p → MappedPiece t (blocks qs) (firstOf qs d) d (getD qs d noPiece)
   unfolding firstOf
   piece-mapped d l =
       let few : d < maxPieces = omega (arith, fits .pieces-in) in
       let first : length (blocks (take d qs)) ≡ blocksUpTo p sizes d = sym (first-is p sizes vertices lengths fits d (omega arith)) in
       let m : sizeOf (getD qs d noPiece) ≡ sizeAt p sizes d = size-of d l in
+      let fill = blocks-fill d l in
+      let small : sizeAt p sizes d ≤ maxSize = size-small p sizes d in
       rw first (record {
         small = suited d l .size-high;
         apart = suited d l .vertices-differ;
-        size-is = getD-take p sizes d 0 l ∙ sym (m ∙ size-is p sizes vertices lengths fits d l);
-        blocks-in = rw m (blocks-fill d l);
+        size-is = size-in p sizes vertices d few ∙ sym m;
+        blocks-in = rw m fill;
         blocks-are = λ j x. rw m (block-of p sizes vertices lengths fits d j l (rw m at x));
-        rows-at = λ j x. rw m (row-at p sizes d j few (rw m at x));
-        vertex-is = λ i x. rw (piece-is d l) (vertex-at p sizes vertices lengths fits d l i (rw m at x));
-        found = λ v i a b x e. place-found p sizes vertices lengths fits d l v a b (rw (piece-is d l) at (suited d l .vertices-differ)) i (rw m at x) (rw (piece-is d l) at e);
-        there = λ v i a b x. let r = found-place p sizes vertices lengths fits d l v a b i x in (rw m (r .0), rw (piece-is d l) (r .1));
+        rows-at = λ j x. let y : j < 2 * pred (sizeAt p sizes d) = rw m at x in rw (m, numbers (blocksUpTo p sizes d + j) (omega arith) .row) (row-at p sizes d j few y);
+        vertex-is = λ i x.
+            let y : i < sizeAt p sizes d = rw m at x in
+            rw (piece-is d l, vertex-in p sizes vertices (rowPlaces * d + i) (omega arith)) (vertex-at p sizes vertices lengths fits d l i y);
+        found = λ v i a b x e.
+            place-in p sizes vertices v d b a few ∙ place-found p sizes vertices lengths fits d l v a b (rw (piece-is d l) at (suited d l .vertices-differ)) i (rw m at x) (rw (piece-is d l) at e);
+        there = λ v i a b x.
+            let r = found-place p sizes vertices lengths fits d l v a b i (sym (place-in p sizes vertices v d b a few) ∙ x) in (rw m (r .0), rw (piece-is d l) (r .1));
       })
 
-  pub mapped : Mapped p (partsOf p sizes) (placesOf p sizes vertices) (firstsOf p sizes) (take p sizes) vertices qs
+  pub mapped : Mapped t qs
   unfolding firstOf blocksUpTo firstsOf
   mapped = record {
-    count = sym pieces-count;
-    few = fits .pieces-in;
-    places-in = places-long p sizes vertices;
-    firsts-in = simp (length-map, length-upFrom);
-    vertices-in = fits .vertices-in;
-    each = piece-mapped;
-    firsts-are = λ d l. firsts-are p sizes d (omega (arith, fits .pieces-in)) ∙ first-is p sizes vertices lengths fits d (omega arith);
-    first-next = λ d l. omega (arith, first-is p sizes vertices lengths fits d (omega arith), first-is p sizes vertices lengths fits (suc d) (omega arith), size-of d l);
+    count = pieces-in p sizes vertices ∙ sym pieces-count;
+    few = omega (arith, pieces-count, fits .pieces-in);
+    numbers-in = tables-count p sizes vertices;
+    each = λ d l. piece-mapped d (rw pieces-count at l);
+    firsts-are = λ d l.
+        let m : d < p = rw pieces-count at l in
+        first-in p sizes vertices d (omega (arith, fits .pieces-in)) ∙ firsts-are p sizes d (omega (arith, fits .pieces-in)) ∙ first-is p sizes vertices lengths fits d (omega arith);
+    first-next = λ d l.
+        let m : d < p = rw pieces-count at l in
+        omega (arith, first-is p sizes vertices lengths fits d (omega arith), first-is p sizes vertices lengths fits (suc d) (omega arith), size-of d m);
     rows-differ = λ b l. every-at (Fit n) (blocks qs) (blocks-fit n qs (suits n qs (ok .pieces-pass))) b noBlock l .rows-differ;
-    rows-are = λ b r l x. row-vertex-is p sizes vertices lengths fits b (number b l) r x;
+    rows-are = λ b r l x.
+        let w = the-window p sizes vertices lengths fits b l in
+        rw (numbers b l .row, vertex-in p sizes vertices (rowIn (partsOf p sizes) b + r) (omega (arith, w .0))) (row-vertex-is p sizes vertices lengths fits b (number b l) r x);
     cols-are = λ b c l x.
         let wide : c < colsIn (partsOf p sizes) b = omega (arith, cols-are p sizes vertices lengths fits b (number b l)) in
         let last = last-is p sizes b (number b l) in
         let h = placed p sizes (fits .pieces-in) b (number b l) in
         let few : getD (placementsOf p sizes) b noPlacement .size ≤ maxSize = rw (h .size-same) (size-small p sizes _) in
         let cols = cols-is p sizes b (number b l) in
-        (omega (arith, last, cols), omega (arith, last, cols, h .inside .cols-in, h .piece-in, fits .pieces-in), column-is p sizes vertices lengths fits b (number b l) c wide);
+        let high : lastIn (partsOf p sizes) b < vertexPlaces = omega (arith, last, cols, h .inside .cols-in, h .piece-in, fits .pieces-in) in
+        rw (numbers b l .last) (omega (arith, last, cols), high, rw (vertex-in p sizes vertices (lastIn (partsOf p sizes) b - c) (omega arith)) (column-is p sizes vertices lengths fits b (number b l) c wide));
   }

@@ -1,0 +1,56 @@
+-- The relations of the engine, from what a caller sees down to the words, one sentence each; this file defines nothing.
+-- A relation that belongs to a function f is named after it: FNeeds is what f needs, FLeaves what it leaves, FKeeps what its loop keeps. Needs say that some
+-- model fits the arrays; Leaves hold for every model that fitted them. A relation of a state has a name of its own.
+--
+-- The arrays as values (Labelling/State, Labelling/Loop)
+--   Tables                the matrix, and the one array of prepared numbers: they stay
+--   Heaps                 the tables, the labels of all rows, and the words of all heaps
+--   Arrays                the heaps, and the tournament of the blocks
+--   Store                 the arrays, and the labels of the vertices
+--
+-- The labelling: all arrays against the definition's state (Labelling/Loop)
+--   IsLabelling           the answer and the labels are those of the definition's labelling
+--   LabelAllGiven         the tables are those of given pieces, the heaps are fresh, the label buffer is blank
+--   LabelAllNeeds Leaves  for some pieces, with a source; the answer and the labels are the labelling, for all pieces
+--   RunStepsNeeds Leaves Keeps    the source is settled; the steps end in the labelling; whatever was started goes on
+--   AdvanceNeeds Leaves   after some steps; one extraction more, or the labelling has ended
+--   Advanced              which of the two, by the function's answer
+--   Underway              the tables are those of given pieces, and the store holds the definition's state after as many steps as the answer counts
+--   AfterSteps            the store holds the definition's state after k steps
+--
+-- A vertex (Labelling/Extractions, Labelling/Vertices, Labelling/Settling, Labelling/Mapped)
+--   ExtractNeeds Leaves   some blocks whose columns are in the tables; the column of least sum of all blocks is extracted, or there is none
+--   Stepped               which of the two, by the function's answer
+--   VertexExtracted       the block and the column, and that the column's vertex is the one that is answered
+--   Columned              the tables have the vertex of each column of each block
+--   SettleGiven           the tables are those of given pieces, the arrays hold given states, and no activation of the vertex is refused
+--   SettleNeeds Leaves Keeps    for some pieces and states; the vertex is activated in all blocks; in those of the first d pieces
+--   VertexActivated       the states afterwards are the definition's, and so many intervals are inserted
+--   PiecesDone Partly     the states when the first d pieces are done; the same, by block numbers
+--   PieceDone             the states when one piece is done
+--   Mapped MappedPiece    the tables are those of given pieces; of one piece
+--
+-- A place of a piece (Labelling/Activations, Labelling/Descent, Labelling/Halves)
+--   ActivatePlaceNeeds Leaves Keeps    a place that can be activated; it is activated in the blocks of its piece; in those of the levels so far
+--   SpotReady             the vertex stands at the place, its label too, and no activation is refused
+--   PlaceActivated        the states afterwards
+--   OnTheWay Descended    the states at a level of the halving; which blocks are done there and which are as they were
+--   Stands                a vertex stands at a place of a piece, whose blocks are those of given states
+--   Halved Level Misses   the half that has the place; its window among those of the piece; a window does not have the place
+--
+-- One block (Labelling/State, Labelling/Lent)
+--   ActivateBlockNeeds Leaves, ExtractBlockNeeds Leaves    a call on a block, with the tournament
+--   ActivateHeapNeeds Leaves, ExtractHeapNeeds Leaves      a call on a block's heap
+--   BlockKeyNeeds Leaves  the key of its least sum
+--   CallDone ExtractionDone    the states after a call, and how many intervals are inserted; an extraction's answer
+--   Accepts HasBlock      an activation that is not refused; a block of some states that the heaps hold
+--   Running               the heaps hold given states, and the tournament is that of their least sums
+--   HoldsBlocks HoldsBlock     the heaps hold the models of given states; one block's heap holds its model
+--   Parted BlockLies      the tables part the arrays among given blocks; one block is a window of the matrix
+--   Bounds                the numbers of a block lie within the arrays
+--
+-- The tournament (Tree/Words, Tree/Climb)
+--   IsTournament          the words hold the best of each block
+--   WinnerIs KeyChanged   the lowest block of least sum; one block has another key
+--   Key Won Played        the key of a block's best; a word is the lesser of the two below it; each word is
+--   Climbing Decreasing   every word is right but perhaps one; and that one once the new key is let in
