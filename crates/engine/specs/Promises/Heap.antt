@@ -1,6 +1,7 @@
 -- Words that hold a model of the block that is lent. Definitions only.
 --   entry Checked    the block
 --   mark Holds       the words hold the model's intervals, the labels those of its activated rows
+--   HoldsSome        they hold some model
 use mathlib.Core.Path.{_≡_}
 use mathlib.Core.List.{List, [], _∷_}
 use Prim.Native.Nat.{ℕ, _+_, _≤_, _<_}
@@ -42,3 +43,6 @@ pub record Holds (w : List ℕ) (rows : List (List ℕ)) (col0 cols : ℕ) (labe
   pub labels-at : Every (λ a. getD labels (a .row) 0 ≡ a .label) (m .activated)
   -- the model is one that calls reach
   pub reached : Reached (entry rows col0) (length rows) cols m
+
+abbrev pub HoldsSome : List ℕ → List (List ℕ) → ℕ → List ℕ → Type 0
+HoldsSome w rows col0 labels = (cols : ℕ) × (m : Model) × Holds w rows col0 cols labels m

@@ -1,5 +1,5 @@
 -- Demand 3 on the code, heap part: one claim about the whole list of calls, of any length and of any calls. Definitions only.
---   Keeps                    words, labels and floor are those of a model
+--   SessionHolds                    words, labels and floor are those of a model
 --   Steps Promised           what the function `call` promises: they become those of the next model
 --   Fresh                    what the first call is lent
 --   Agrees Ran               after any number of calls; what the function `run_calls` promises
@@ -21,7 +21,7 @@ use Rattle.engine.specs.Promises.Heap.{entry, Checked, Holds}
 -- ---- one call
 
 -- the words hold the model, a row that is not activated has no label, and the floor is the model's
-pub record Keeps (rows : List (List ℕ)) (cols : ℕ) (heap labels : List ℕ) (floor : ℕ) (m : Model) : Type 0 where
+pub record SessionHolds (rows : List (List ℕ)) (cols : ℕ) (heap labels : List ℕ) (floor : ℕ) (m : Model) : Type 0 where
   pub held : Holds heap rows 0 cols labels m
   pub unlabelled : (r : ℕ) → r < length rows → isActivated r (m .activated) ≡ false → getD labels r 0 ≡ unreached
   pub floor-is : floor ≡ m .floor
@@ -36,7 +36,7 @@ answerIn r = record { code = r .code; column = r .column; sum = r .sum }
 
 -- The call k on the model m returns r and leaves these words and labels: they are those of the next model; the answer and the counts are the model's.
 pub record Steps (rows : List (List ℕ)) (cols : ℕ) (m : Model) (k : Call) (heap labels : List ℕ) (r : Called) : Type 0 where
-  pub keeps : Keeps rows cols heap labels (r .floor) (stepOf rows cols m k .model)
+  pub keeps : SessionHolds rows cols heap labels (r .floor) (stepOf rows cols m k .model)
   pub answer-is : answerIn r ≡ stepOf rows cols m k .answer
   pub inserted-is : r .inserted ≡ countNew (intervals (entry rows 0) cols (stepOf rows cols m k .model)) (intervals (entry rows 0) cols m)
   pub removed-is : r .removed ≡ countNew (intervals (entry rows 0) cols m) (intervals (entry rows 0) cols (stepOf rows cols m k .model))
@@ -49,7 +49,7 @@ pub record Steps (rows : List (List ℕ)) (cols : ℕ) (m : Model) (k : Call) (h
 
 -- what `call` promises, given these words, labels and floor: whatever model they are those of, it makes the call k on it
 abbrev pub Promised : List (List ℕ) → ℕ → List ℕ → List ℕ → ℕ → Call → List ℕ → List ℕ → Called → Type 0
-Promised rows cols heap labels floor k heap′ labels′ r = (m : Model) → Keeps rows cols heap labels floor m → Steps rows cols m k heap′ labels′ r
+Promised rows cols heap labels floor k heap′ labels′ r = (m : Model) → SessionHolds rows cols heap labels floor m → Steps rows cols m k heap′ labels′ r
 
 -- ---- any number of calls
 
@@ -65,7 +65,7 @@ traceOf rows cols ks = trace (entry rows 0) (length rows) cols ks
 
 -- The words and labels are those of the model that the calls ks leave, and the counts are those of their trace.
 pub record Agrees (rows : List (List ℕ)) (cols : ℕ) (ks : List Call) (heap labels : List ℕ) (inserted removed : ℕ) : Type 0 where
-  pub keeps : Keeps rows cols heap labels (traceOf rows cols ks .model .floor) (traceOf rows cols ks .model)
+  pub keeps : SessionHolds rows cols heap labels (traceOf rows cols ks .model .floor) (traceOf rows cols ks .model)
   -- the kept intervals are exactly the model's, each once
   pub kept-are : kept heap ≡ intervals (entry rows 0) cols (traceOf rows cols ks .model)
   pub once : Distinct (kept heap)
