@@ -10,30 +10,12 @@ returns : tie.Need-returns
 returns c =
     field-size _ _ _ (c .if1 .taken)
 
-read-field-requires : tie.Need-read-field-requires
-read-field-requires c κs = search needs
-
-enum-known-field : tie.Need-enum-known-field
-enum-known-field c = search needs
-
 enum-told : tie.Need-enum-told
 enum-told c = search needs
-
-slice-write-value : tie.Need-slice-write-value
-slice-write-value c = search needs
-
-same-length : tie.Need-same-length
-same-length c = search needs
 
 returns-2 : tie.Need-returns-2
 returns-2 c =
     field-left _ _ _ noField (c .before .before .before .if1 .left) (sym (ap fieldAnswer (c .enum-told .given .1)) ∙ c .before .before .read-field .ensures)
-
-slice-write-value-2 : tie.Need-slice-write-value-2
-slice-write-value-2 c = search needs
-
-same-length-2 : tie.Need-same-length-2
-same-length-2 c = search needs
 
 returns-3 : tie.Need-returns-3
 returns-3 c =
@@ -41,15 +23,5 @@ returns-3 c =
 
 pub rabdzhine-read-field-spec : {M : Type 1} → statement M
 rabdzhine-read-field-spec =
-    tie.close
-    (tie.spec
-    returns
-    read-field-requires
-    enum-known-field
-    enum-told
-    slice-write-value
-    same-length
-    returns-2
-    slice-write-value-2
-    same-length-2
-    returns-3)
+    tie.close (tie.spec returns (search needs) (search needs) enum-told (search needs) (search needs) returns-2 (search needs)
+    (search needs) returns-3)

@@ -7,12 +7,6 @@ use Rattle.answer.specs.Answers.{written-fits}
 use Rattle.replay_labels.proofs.write_listing.Statement.{statement}
 use Rattle.replay_labels.proofs.write_listing.Tie as tie
 
-slice-aggregate-list-input : tie.Need-slice-aggregate-list-input
-slice-aggregate-list-input c = search needs
-
-list-input-requires : tie.Need-list-input-requires
-list-input-requires c κs = search needs
-
 array-share-prefix-out : tie.Need-array-share-prefix-out
 array-share-prefix-out c =
     let fits = written-fits _ _ _ _ (c .before .list-input .ensures .0) in
@@ -23,19 +17,6 @@ slice-aggregate-write-all c =
     let fits = written-fits _ _ _ _ (c .before .before .list-input .ensures .0) in
     sym (length-take-le _ _ (omega arith))
 
-write-all-requires : tie.Need-write-all-requires
-write-all-requires c κs = search needs
-
-returns : tie.Need-returns
-returns c = search needs
-
 pub write-listing-spec : {M : Type 1} → statement M
 write-listing-spec =
-    tie.close
-    (tie.spec
-    slice-aggregate-list-input
-    list-input-requires
-    array-share-prefix-out
-    slice-aggregate-write-all
-    write-all-requires
-    returns)
+    tie.close (tie.spec (search needs) (search needs) array-share-prefix-out slice-aggregate-write-all (search needs) (search needs))

@@ -10,37 +10,7 @@ Inv-loop intervals kept col j₀ j = Unit {0}
 abbrev μ-loop : tie.MeasureT-loop
 μ-loop intervals kept col j₀ j = kept - j
 
-loop-holds : tie.Need-loop-holds Inv-loop μ-loop
-loop-holds c = search needs
-
-first-column-requires : tie.Need-first-column-requires Inv-loop μ-loop
-first-column-requires c κs = search needs
-
-write-triple-requires : tie.Need-write-triple-requires Inv-loop μ-loop
-write-triple-requires c κs = search needs
-
-add-j : tie.Need-add-j Inv-loop μ-loop
-add-j c = search needs
-
-loop-less : tie.Need-loop-less Inv-loop μ-loop
-loop-less c = search needs
-
-loop-again : tie.Need-loop-again Inv-loop μ-loop
-loop-again c = search needs
-
-returns : tie.Need-returns Inv-loop μ-loop
-returns c = search needs
-
 pub write-from-spec : {M : Type 1} → statement M
 write-from-spec =
-    tie.close
-    (tie.spec
-    Inv-loop
-    μ-loop
-    loop-holds
-    first-column-requires
-    write-triple-requires
-    add-j
-    loop-less
-    loop-again
-    returns)
+    tie.close (tie.spec Inv-loop μ-loop (search needs) (search needs) (search needs) (search needs) (search needs) (search needs)
+    (search needs))
