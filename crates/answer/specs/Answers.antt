@@ -1,7 +1,7 @@
 -- From what the reader and the labelling answer to the listing.
 --   sized                            buffers of the stated sizes
 --   Understood read-accepted         an answer with number 0: the plan that was read, and its pieces in the buffers
---   read-refused                     any other answer: the number of the refusal, with one digit
+--   read-refused                     any other answer: the number of the refusal
 --   vertices-fit labelled            the labelling of what is in the buffers, line by line, is the listing
 --   listing-fits                     no listing is longer than the output buffer
 --   untouched finished written-fits  what the output buffer holds, and how many bytes are written
@@ -32,8 +32,8 @@ use Rattle.text.specs.Accepted.{Accepted, Sound, plan-accepted, network-accepte
 use Rattle.answer.specs.Listing.{listingPlaces, AfterListing, writeListing}
 use Rattle.basics.specs.Buffers.{put}
 use Rattle.answer.specs.Output.{Put}
-use Rattle.answer.specs.Refusals.{Low, low-text, refusal-digit}
-use Rattle.answer.specs.Lines.{length-line, vertexLines, length-vertices}
+use Rattle.answer.specs.Refusals.{Numbered, numbered-text}
+use Rattle.answer.specs.Lines.{length-line, vertexLines, length-vertices, refusal-fits}
 
 -- ---- the reader
 
@@ -101,18 +101,15 @@ module _ (text s v l : List ℕ) (answer : ReadAnswer) (s′ v′ l′ : List �
   read-accepted z = go (seen (readText text))
     where
       go : Seen (readText text) → Understood text answer s′ v′ l′
-      go (turned k e) = let low : Low {A = Plan} (refused k) = rw e at (low-text text) in absurd (omega (arith, answer-refused k e, low .0))
+      go (turned k e) = let h : Numbered {A = Plan} (refused k) = rw e at (numbered-text text) in absurd (omega (arith, answer-refused k e, h))
       go (read plan e) = answer-value plan e
 
-  pub read-refused : answer .number ≢ 0 → (answer .number ≤ 8) × (refusalLine (answer .number) ≡ listing text)
+  pub read-refused : answer .number ≢ 0 → refusalLine (answer .number) ≡ listing text
   unfolding listing planListing
   read-refused h = go (seen (readText text))
     where
-      go : Seen (readText text) → (answer .number ≤ 8) × (refusalLine (answer .number) ≡ listing text)
-      go (turned k e) =
-          let low : Low {A = Plan} (refused k) = rw e at (low-text text) in
-          let q = answer-refused k e in
-          (omega (arith, q, low .1), rw (q, e))
+      go : Seen (readText text) → refusalLine (answer .number) ≡ listing text
+      go (turned k e) = rw (answer-refused k e, e)
       go (read plan e) = absurd (h (ap (λ (a : ReadAnswer). a .number) (answer-value plan e .answered)))
 
 -- ---- the labelling
@@ -186,9 +183,7 @@ unfolding listing planListing
 listing-fits text = go (seen (readText text))
   where
     go : Seen (readText text) → length (listing text) ≤ listingPlaces
-    go (turned k e) =
-        let low : Low {A = Plan} (refused k) = rw e at (low-text text) in
-        rw (e, refusal-digit k (low .1)) (omega arith)
+    go (turned k e) = rw e (omega (arith, refusal-fits k))
     go (read plan e) =
         let few = bounds-in (plan .n) (length (plan .pieces)) (plan-accepted text plan (text-value text plan e .1) .bounds) .0 in
         let st = labelling (blocks (plan .pieces)) (plan .source) in

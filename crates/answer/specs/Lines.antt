@@ -2,6 +2,7 @@
 --   length-line            a line of k fields has 9·k + 1 bytes
 --   fields-turn fields-all a line's fields, written one by one
 --   vertexLines vertices-next length-vertices   the lines of the vertices, one by one
+--   refusalWord refusalBytes refusal-is refusal-fits   the line of a refusal
 use mathlib.Core.Path.{_≡_, sym, _∙_}
 use mathlib.Core.List.{List, [], _∷_, _++_, flatMap, append-assoc}
 use Prim.Native.Nat.{ℕ, zero, suc, _+_, _-_, _*_, _≤_, _<_}
@@ -10,11 +11,11 @@ use native.Mathlib.Omega.{arith}
 use borrow.Author.Tests.{eq-eqb, le-leb}
 use lib.ListN.{getD, length, take, drop, length-append}
 use lib.Seq.{take-at, take-all, take-suc, length-take-le}
-use Rattle.definitions.specs.Limits.{linePlaces}
+use Rattle.definitions.specs.Limits.{columnBytes, lineFields, linePlaces, lastPlace}
 use Rattle.definitions.specs.Lists.{upFrom, firstCause}
-use Rattle.definitions.specs.Text.{lineEnd}
-use Rattle.definitions.specs.Entries.{columnBytes, hasPlaces, nineColumns, judgeWrite, writeField, listingLine}
-use Rattle.fields.specs.Writing.{length-nineColumns}
+use Rattle.definitions.specs.Text.{blank, lineEnd}
+use Rattle.definitions.specs.Entries.{hasPlaces, decimal, nineColumns, judgeWrite, writeField, listingLine, refusalLine}
+use Rattle.fields.specs.Writing.{length-nineColumns, maxDigits, decimal-few}
 use Rattle.basics.specs.Buffers.{flatMap-snoc, put, put-nothing}
 use Rattle.answer.specs.Listing.{listingLineBytes}
 use Rattle.answer.specs.Output.{Put, put-then}
@@ -31,19 +32,19 @@ length-line xs = length-append (flatMap nineColumns xs) (lineEnd ∷ []) ∙ ome
 -- ---- the fields of a line
 
 -- one field more
-pub fields-turn : (line numbers : List ℕ) (i : ℕ) → length line ≡ linePlaces → length numbers ≤ 4 → i < length numbers → take (9 * i) line ≡ flatMap nineColumns (take i numbers)
-    → take (9 * (i + 1)) ((writeField line i (getD numbers i 0)) .line) ≡ flatMap nineColumns (take (i + 1) numbers)
+pub fields-turn : (line numbers : List ℕ) (i : ℕ) → length line ≡ linePlaces → length numbers ≤ lineFields → i < length numbers → take (columnBytes * i) line ≡ flatMap nineColumns (take i numbers)
+    → take (columnBytes * (i + 1)) ((writeField line i (getD numbers i 0)) .line) ≡ flatMap nineColumns (take (i + 1) numbers)
 unfolding writeField judgeWrite hasPlaces firstCause
 fields-turn line numbers i long few h e =
     let x = getD numbers i 0 in
-    let z : i ≤ 3 = omega arith in
-    let end : length (take (9 * i) line ++ nineColumns x) ≡ 9 * (i + 1) = length-append (take (9 * i) line) (nineColumns x) ∙ omega (arith, length-nineColumns x, length-take-le (9 * i) line (omega arith)) in
+    let z : i ≤ lastPlace = omega arith in
+    let end : length (take (columnBytes * i) line ++ nineColumns x) ≡ columnBytes * (i + 1) = length-append (take (columnBytes * i) line) (nineColumns x) ∙ omega (arith, length-nineColumns x, length-take-le (columnBytes * i) line (omega arith)) in
     simp (eq-eqb _ _ long, le-leb _ _ z)
-    (rw (← append-assoc (take (9 * i) line) (nineColumns x) (drop (9 * i + 9) line), take-at (take (9 * i) line ++ nineColumns x) (drop (9 * i + 9) line) (9 * (i + 1)) end, e, add-one i, take-suc numbers i 0 h)
+    (rw (← append-assoc (take (columnBytes * i) line) (nineColumns x) (drop (columnBytes * i + columnBytes) line), take-at (take (columnBytes * i) line ++ nineColumns x) (drop (columnBytes * i + columnBytes) line) (columnBytes * (i + 1)) end, e, add-one i, take-suc numbers i 0 h)
     (sym (flatMap-snoc nineColumns (take i numbers) x)))
 
 -- all of them, and the byte 10
-pub fields-all : (line numbers : List ℕ) (i : ℕ) → i ≡ length numbers → take (9 * i) line ≡ flatMap nineColumns (take i numbers) → take (9 * i) line ++ (lineEnd ∷ []) ≡ listingLine numbers
+pub fields-all : (line numbers : List ℕ) (i : ℕ) → i ≡ length numbers → take (columnBytes * i) line ≡ flatMap nineColumns (take i numbers) → take (columnBytes * i) line ++ (lineEnd ∷ []) ≡ listingLine numbers
 unfolding listingLine
 fields-all line numbers i h e = rw (e, take-all i numbers (omega arith))
 
@@ -73,3 +74,20 @@ module _ (labels out : List ℕ) (place n v : ℕ) where
   pub vertices-all : v ≡ n + 1 → put out place (vertexLines labels v (n + 1 - v)) ≡ out
   unfolding vertexLines flatMap upFrom
   vertices-all h = let z : n + 1 - v ≡ 0 = omega arith in rw z (put-nothing out place)
+
+-- ---- the line of a refusal
+
+-- `refused` and a blank
+abbrev pub refusalWord : List ℕ
+refusalWord = 114 ∷ 101 ∷ 102 ∷ 117 ∷ 115 ∷ 101 ∷ 100 ∷ blank ∷ []
+
+-- room for it, whatever the number
+abbrev pub refusalBytes : ℕ
+refusalBytes = length refusalWord + maxDigits + 1
+
+pub refusal-is : (k : ℕ) → (refusalWord ++ decimal k) ++ (lineEnd ∷ []) ≡ refusalLine k
+unfolding refusalLine
+refusal-is k = append-assoc refusalWord (decimal k) (lineEnd ∷ [])
+
+pub refusal-fits : (k : ℕ) → length (refusalLine k) ≤ refusalBytes
+refusal-fits k = rw (← refusal-is k) (simp length-append (omega (arith, decimal-few k)))

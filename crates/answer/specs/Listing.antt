@@ -3,8 +3,8 @@ use mathlib.Core.Bool.{cond}
 use mathlib.Core.List.{List, _++_}
 use Prim.Native.Nat.{ℕ, _+_, _*_}
 use lib.ListN.{length, drop}
-use Rattle.definitions.specs.Limits.{maxVertices}
-use Rattle.definitions.specs.Entries.{columnBytes, hasPlaces, listing}
+use Rattle.definitions.specs.Limits.{columnBytes, maxVertices}
+use Rattle.definitions.specs.Entries.{hasPlaces, listing}
 
 -- the bytes of a line of k fields of nine columns
 abbrev pub listingLineBytes : ℕ → ℕ

@@ -1,14 +1,14 @@
 -- Bytes put into a buffer from a place on.
 --   Put put-then put-both  what a function that puts bytes leaves, and the place behind them
---   line-turn line-closed  a line copied byte by byte, then its byte 10
-use mathlib.Core.Path.{_≡_, sym, ap, _∙_}
+--   byte-put               one byte
+--   bytes-turn bytes-all   bytes copied one by one
+use mathlib.Core.Path.{_≡_, refl, sym, _∙_}
 use mathlib.Core.List.{List, [], _∷_, _++_}
 use Prim.Native.Nat.{ℕ, suc, _+_, _≤_, _<_}
 use native.Mathlib.Numerals.{add-one}
 use native.Mathlib.Omega.{arith}
-use lib.ListN.{getD, length, set, length-append, List·getD-append}
-use lib.Seq.{take-all, getD-append-seam, paste, paste-suc}
-use Rattle.definitions.specs.Text.{lineEnd}
+use lib.ListN.{getD, length, take, drop, set, length-append}
+use lib.Seq.{take-all, append-snoc, set-split, paste, paste-suc}
 use Rattle.basics.specs.Buffers.{put, put-append}
 
 -- ---- what a function leaves
@@ -28,21 +28,21 @@ put-both out at xs ys next mid end left p q h = record {
   stands = q .stands ∙ put-then out at xs ys next mid p h;
 }
 
--- ---- a line
+-- ---- bytes
 
-module _ (out : List ℕ) (at : ℕ) (line : List ℕ) (room : at + length line + 1 ≤ length out) (left : List ℕ) (i : ℕ) (copied : left ≡ paste out at (line ++ (lineEnd ∷ [])) i) where
-  -- one byte more
-  pub line-turn : i < length line → set left (at + i) (getD line i 0) ≡ paste out at (line ++ (lineEnd ∷ [])) (i + 1)
-  line-turn h =
-      let one = List·getD-append line (lineEnd ∷ []) 0 i h in
-      rw (copied, ← one, add-one) (paste-suc out at (line ++ (lineEnd ∷ [])) i 0 (omega arith) (omega (arith, length-append line (lineEnd ∷ []))))
+-- one byte
+pub byte-put : (out : List ℕ) (at b : ℕ) → at < length out → Put out at (b ∷ []) (at + 1) (set out at b)
+unfolding put
+byte-put out at b h = record {
+  behind = refl;
+  stands = set-split out at b h ∙ rw add-one (sym (append-snoc (take at out) b (drop (suc at) out)));
+}
 
-  -- the byte behind them
-  pub line-closed : i ≡ length line → Put out at (line ++ (lineEnd ∷ [])) (at + i + 1) (set left (at + i) lineEnd)
+-- a copy, byte by byte
+module _ (out : List ℕ) (at : ℕ) (xs : List ℕ) (room : at + length xs ≤ length out) (left : List ℕ) (i : ℕ) (copied : left ≡ paste out at xs i) where
+  pub bytes-turn : i < length xs → set left (at + i) (getD xs i 0) ≡ paste out at xs (i + 1)
+  bytes-turn h = rw (copied, add-one) (paste-suc out at xs i 0 (omega arith) h)
+
+  pub bytes-all : i ≡ length xs → Put out at xs (at + i) left
   unfolding put
-  line-closed e =
-      let long : length (line ++ (lineEnd ∷ [])) ≡ suc i = length-append line (lineEnd ∷ []) ∙ omega arith in
-      let end : getD (line ++ (lineEnd ∷ [])) i 0 ≡ lineEnd = rw e (getD-append-seam line lineEnd [] 0) in
-      let filled : set left (at + i) lineEnd ≡ paste out at (line ++ (lineEnd ∷ [])) (suc i) = ap (λ (x : ℕ). set left (at + i) x) (sym end)
-      ∙ ap (λ (l : List ℕ). set l (at + i) (getD (line ++ (lineEnd ∷ [])) i 0)) copied ∙ paste-suc out at (line ++ (lineEnd ∷ [])) i 0 (omega arith) (omega (arith, long)) in
-      record { behind = omega (arith, long); stands = filled ∙ rw (take-all (suc i) (line ++ (lineEnd ∷ [])) (omega (arith, long)), long) }
+  bytes-all e = record { behind = rw e; stands = copied ∙ rw (take-all i xs (omega arith), e) }

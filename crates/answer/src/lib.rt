@@ -1,14 +1,14 @@
 // The listing of a text: what the program `labels` writes for the bytes that it reads.
 ghost use mathlib.Core.Path.{_≡_};
 ghost use mathlib.Core.List.{List, [], _∷_, _++_};
-ghost use Prim.Native.Nat.{ℕ, _+_, _*_, _≤_};
+ghost use Prim.Native.Nat.{ℕ, _+_, _*_, _≤_, _<_};
 ghost use lib.ListN.{length, take};
-ghost use Rattle.definitions.specs.Limits.{maxVertices, labelPlaces};
+ghost use Rattle.definitions.specs.Limits.{maxVertices, labelPlaces, lineFields};
 ghost use Rattle.definitions.specs.Text.{lineEnd};
-ghost use Rattle.definitions.specs.Entries.{listingLine, refusalLine};
+ghost use Rattle.definitions.specs.Entries.{decimal, listingLine, refusalLine};
 ghost use Rattle.answer.specs.Listing.{listingLineBytes, writeListing};
 ghost use Rattle.answer.specs.Output.{Put};
-ghost use Rattle.answer.specs.Lines.{vertexLines};
+ghost use Rattle.answer.specs.Lines.{vertexLines, refusalBytes};
 use bounds::Line;
 use bounds::Network;
 use bounds::Text;
@@ -21,24 +21,40 @@ pub const LISTING_BYTES: usize = 4 * Line::FIELD_BYTES
     + 1
     + Network::LABEL_PLACES * (2 * Line::FIELD_BYTES + 1);
 
-// Puts a line and the byte 10 behind it into the output from a place on; the place behind them.
+// Puts a byte into the output; the place behind it.
+fn put_byte(out: &mut [u8], at: usize, byte: u8) -> usize
+    requires { ⌜ at < length (now out) ⌝ }
+    ensures { λ r. ⌜ Put (now (out .entry)) at (byte ∷ []) r (now (out .exit)) ⌝ }
+{
+    out[at] = byte;
+    at + 1
+}
+
+// Puts bytes into the output from a place on; the place behind them.
+fn put_bytes(out: &mut [u8], at: usize, bytes: &[u8]) -> usize
+    requires { ⌜ at + length (now bytes) ≤ length (now out) ⌝ }
+    ensures { λ r. ⌜ Put (now (out .entry)) at (now (bytes .entry)) r (now (out .exit)) ⌝ }
+{
+    let mut i = 0;
+    while i < bytes.len() {
+        out[at + i] = bytes[i];
+        i += 1;
+    }
+    at + i
+}
+
+// Puts a line and the byte 10 behind it.
 fn put_line(out: &mut [u8], at: usize, line: &[u8]) -> usize
     requires { ⌜ at + length (now line) + 1 ≤ length (now out) ⌝ }
     ensures { λ r. ⌜ Put (now (out .entry)) at (now (line .entry) ++ (lineEnd ∷ [])) r (now (out .exit)) ⌝ }
 {
-    let mut i = 0;
-    while i < line.len() {
-        out[at + i] = line[i];
-        i += 1;
-    }
-    let end = at + i;
-    out[end] = b'\n';
-    end + 1
+    let end = put_bytes(out, at, line);
+    put_byte(out, end, b'\n')
 }
 
 // Puts a line of up to four fields of nine columns.
 fn put_fields(out: &mut [u8], at: usize, numbers: &[u32]) -> usize
-    requires { ⌜ (length (now numbers) ≤ 4) × (at + listingLineBytes (length (now numbers)) ≤ length (now out)) ⌝ }
+    requires { ⌜ (length (now numbers) ≤ lineFields) × (at + listingLineBytes (length (now numbers)) ≤ length (now out)) ⌝ }
     ensures { λ r. ⌜ Put (now (out .entry)) at (listingLine (now (numbers .entry))) r (now (out .exit)) ⌝ }
 {
     let mut line = [b' '; Line::BYTES];
@@ -66,23 +82,26 @@ fn put_vertices(out: &mut [u8], at: usize, n: u32, labels: &[u32]) -> usize
     place
 }
 
-// Puts the line of a refusal, whose number has one digit.
+// Puts the decimal digits of a number: the last one behind those of the rest.
+fn put_number(out: &mut [u8], at: usize, x: u32) -> usize
+    requires { ⌜ at + length (decimal x) ≤ length (now out) ⌝ }
+    ensures { λ r. ⌜ Put (now (out .entry)) at (decimal x) r (now (out .exit)) ⌝ }
+{
+    if x < 10 {
+        return put_byte(out, at, b'0' + x as u8);
+    }
+    let next = put_number(out, at, x / 10);
+    put_byte(out, next, b'0' + (x % 10) as u8)
+}
+
+// Puts the line of a refusal, whatever its number.
 fn put_refusal(out: &mut [u8], number: u32) -> usize
-    requires { ⌜ (number ≤ 8) × (10 ≤ length (now out)) ⌝ }
+    requires { ⌜ refusalBytes ≤ length (now out) ⌝ }
     ensures { λ r. ⌜ Put (now (out .entry)) 0 (refusalLine number) r (now (out .exit)) ⌝ }
 {
-    let line = [
-        b'r',
-        b'e',
-        b'f',
-        b'u',
-        b's',
-        b'e',
-        b'd',
-        b' ',
-        b'0' + number as u8,
-    ];
-    put_line(out, 0, &line)
+    let at = put_bytes(out, 0, b"refused ");
+    let end = put_number(out, at, number);
+    put_byte(out, end, b'\n')
 }
 
 // Writes what the program `labels` prints for a text to the front of the output, and returns how many bytes that is; what stands

@@ -12,7 +12,7 @@ use Rattle.definitions.specs.Blocks.{splits, splitsOf, windows, windowsO
 use Rattle.definitions.specs.Model.{lesser, least, through, parent, available, placed, leastFrom, adjoins, joined, prepend, prependColumn, runs, intervals, sameInterval, isKept, countNew, isActivated, judge, activate, extract, step, extend, traceFrom, trace}
 use Rattle.definitions.specs.Labelling.{freshBlock, apply, leastOf, placeOf, activateAt, activateVertex, labelOf, settleAs, settle, chosen, placeIn, extractFrom, advance, steps, start, columns, labelling, reached, extractions, insertions, heldLabel, labels}
 use Rattle.definitions.specs.Judgement.{judgeBounds, judgeSize, judgeVertices, judgeRow, judgeRows, judgeBlocks, judgeSource, judgePiece, pieceAt, piecesOf, judgeFrom, judgeNetwork}
-use Rattle.definitions.specs.Text.{Read, refused, value, Plan, isDigit, skipBlanks, isNumeral, numeralValue, fieldOf, fieldAt, readField, readFields, judgeLineEnd, readLine, lineBytes, readRows, readPiece, pieceBytes, readPieces, judgeEnd, readBody, readPlan, judgeLength, readText, sizesOf, verticesOf, tableOf, lengthsOf}
+use Rattle.definitions.specs.Text.{Read, refused, value, Plan, isDigit, skipBlanks, isNumeral, numeralValue, fieldOf, fieldAt, lengthAt, readField, readFields, judgeLineEnd, readLine, readRows, readPiece, pieceBytes, readPieces, judgeEnd, readBody, readPlan, judgeLength, readText, sizesOf, verticesOf, tableOf, lengthsOf}
 use Rattle.definitions.specs.Entries.{AfterRead, AfterLabel, AfterSession, hasPlaces, judgeBuffers, afterRead, reading, judgeLabelling, labelAnswer, labelNetwork, rectangleOf, judgeSession, callAt, callsOf, answersOf, intervalsOf, session, digitsOf, decimal, rightJustified, nineColumns, listingLine, refusalLine, stateListing, planListing, listing}
 
 -- ---- the texts
@@ -161,5 +161,5 @@ table =
 
 -- every row shows what the paper says
 pub examples : map (λ r. run (r .example)) table ≡ map (λ r. r .shown) table
-unfolding bytes depot tooLong countsOf readInto filled labelLent listed entriesOf blockIn runSession left run row activation extraction done onBlock table flatMap all every mem different total upFrom downTo padded within firstCause splits splitsOf windows windowsOf rowsOf columnsOf corners isMonge lesser least through parent available placed leastFrom adjoins joined prepend prependColumn runs intervals sameInterval isKept countNew isActivated judge activate extract step extend traceFrom trace entry sizeOf blockOf blocksOf blocks passes freshBlock apply leastOf placeOf activateAt activateVertex labelOf settleAs settle chosen placeIn extractFrom advance steps start columns labelling reached extractions insertions heldLabel labels judgeBounds judgeSize judgeVertices judgeRow judgeRows judgeBlocks judgeSource judgePiece pieceAt piecesOf judgeFrom judgeNetwork isDigit skipBlanks isNumeral numeralValue fieldOf fieldAt readField readFields judgeLineEnd readLine lineBytes readRows readPiece pieceBytes readPieces judgeEnd readBody readPlan judgeLength readText sizesOf verticesOf tableOf lengthsOf hasPlaces judgeBuffers afterRead reading judgeLabelling labelAnswer labelNetwork rectangleOf judgeSession callAt callsOf answersOf intervalsOf session digitsOf decimal rightJustified nineColumns listingLine refusalLine stateListing planListing listing
+unfolding bytes depot tooLong countsOf readInto filled labelLent listed entriesOf blockIn runSession left run row activation extraction done onBlock table flatMap all every mem different total upFrom downTo padded within firstCause splits splitsOf windows windowsOf rowsOf columnsOf corners isMonge lesser least through parent available placed leastFrom adjoins joined prepend prependColumn runs intervals sameInterval isKept countNew isActivated judge activate extract step extend traceFrom trace entry sizeOf blockOf blocksOf blocks passes freshBlock apply leastOf placeOf activateAt activateVertex labelOf settleAs settle chosen placeIn extractFrom advance steps start columns labelling reached extractions insertions heldLabel labels judgeBounds judgeSize judgeVertices judgeRow judgeRows judgeBlocks judgeSource judgePiece pieceAt piecesOf judgeFrom judgeNetwork isDigit skipBlanks isNumeral numeralValue fieldOf fieldAt lengthAt readField readFields judgeLineEnd readLine readRows readPiece pieceBytes readPieces judgeEnd readBody readPlan judgeLength readText sizesOf verticesOf tableOf lengthsOf hasPlaces judgeBuffers afterRead reading judgeLabelling labelAnswer labelNetwork rectangleOf judgeSession callAt callsOf answersOf intervalsOf session digitsOf decimal rightJustified nineColumns listingLine refusalLine stateListing planListing listing
 examples = refl

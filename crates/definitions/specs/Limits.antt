@@ -1,7 +1,8 @@
 -- The limits and bounds of document 01, one definition each, and the two operations on lengths.
 --   maxVertices maxPieces maxSize maxLength maxLabel   of a network
 --   maxSide maxCalls maxText                           of a session and of a text
---   rowPlaces .. linePlaces, lastPlace                 the sizes of the lent buffers; the last place of a line
+--   rowPlaces .. intervalPlaces, linePlaces            the sizes of the lent buffers
+--   columnBytes lineFields lastPlace                   a field that is written; the fields of a line, and the last of them
 --   callSize answerSize intervalSize                   how many numbers a call, an answer and an interval are
 --   unreached unusedInterval                           what stands where there is no label, no interval
 --   sum below                                          a label and a length; the order of sums
@@ -82,12 +83,19 @@ answerPlaces = answerSize * maxCalls
 abbrev pub intervalPlaces : ℕ
 intervalPlaces = intervalSize * maxSide
 
+-- "nine columns"
+abbrev pub columnBytes : ℕ
+columnBytes = 9
+
 -- "the lent line, 36 bytes with four places counted from 0"
+abbrev pub lineFields : ℕ
+lineFields = 4
+
 abbrev pub linePlaces : ℕ
-linePlaces = 36
+linePlaces = lineFields * columnBytes
 
 abbrev pub lastPlace : ℕ
-lastPlace = 3
+lastPlace = lineFields - 1
 
 -- "holds 4,294,967,295 for an unreached gate and for places above n"
 abbrev pub unreached : ℕ

@@ -1,8 +1,8 @@
 -- Document 01, "Text layout": from bytes to a refusal or a plan, in the stated order of judgement.
---   FieldAnswer fieldOf fieldAt           six bytes: 0 and a number, or no field (3)
+--   FieldAnswer fieldOf fieldAt lengthAt  six bytes: 0 and a number, or no field (3)
 --   fieldAnswer                           the number and the value of each case of the program's answer
 --   Read require                          refused by a number, or read
---   readFields readLine                   a line's layout: its fields and one byte 10
+--   FieldReading readFields readLine      a line's layout: its fields, of one kind, and one byte 10
 --   readRows readPiece readPieces         districts, judged as they are read
 --   Plan readPlan readText                the whole text
 --   sizesOf verticesOf lengthsOf          what the reader leaves in the lent buffers
@@ -71,6 +71,10 @@ fieldOf bytes =
 unfoldable pub fieldAt : List ℕ → ℕ → FieldAnswer
 fieldAt text at = cond (leb (at + fieldBytes) (length text)) (fieldOf (take fieldBytes (drop at text))) noField
 
+-- a length field: a number, like any other field
+unfoldable pub lengthAt : List ℕ → ℕ → FieldAnswer
+lengthAt text at = fieldAt text at
+
 -- the number and the value of each case of the program's answer
 abbrev pub fieldAnswer : Field → FieldAnswer
 fieldAnswer (Number x) = aField x
@@ -93,18 +97,22 @@ abbrev pub require : ℕ → Read (Unit {0})
 require zero = value tt
 require (suc k) = refused (suc k)
 
+-- how the fields of a line are read, each at its place of the text: `fieldAt` or `lengthAt`
+abbrev pub FieldReading : Type 0
+FieldReading = List ℕ → ℕ → FieldAnswer
+
 -- the number at a place, else 3
-unfoldable pub readField : List ℕ → ℕ → Read ℕ
-readField text at = do
-  _ ← require ((fieldAt text at) .number)
-  value ((fieldAt text at) .value)
+unfoldable pub readField : FieldReading → List ℕ → ℕ → Read ℕ
+readField field text at = do
+  _ ← require ((field text at) .number)
+  value ((field text at) .value)
 
 -- k fields, one after the other: "Fields need no blank between them"
-unfoldable pub readFields : List ℕ → ℕ → ℕ → Read (List ℕ)
-readFields text at zero = value []
-readFields text at (suc k) = do
-  x ← readField text at
-  xs ← readFields text (at + fieldBytes) k
+unfoldable pub readFields : FieldReading → List ℕ → ℕ → ℕ → Read (List ℕ)
+readFields field text at zero = value []
+readFields field text at (suc k) = do
+  x ← readField field text at
+  xs ← readFields field text (at + fieldBytes) k
   value (x ∷ xs)
 
 -- the byte at a place is a line's end; past the text's end there is none
@@ -112,21 +120,21 @@ unfoldable pub judgeLineEnd : List ℕ → ℕ → ℕ
 judgeLineEnd text at = cond (eqb (getD text at 0) lineEnd) 0 3
 
 -- "A line is its fields and one byte 10"
-unfoldable pub readLine : List ℕ → ℕ → ℕ → Read (List ℕ)
-readLine text at k = do
-  xs ← readFields text at k
+unfoldable pub readLine : FieldReading → List ℕ → ℕ → ℕ → Read (List ℕ)
+readLine field text at k = do
+  xs ← readFields field text at k
   _ ← require (judgeLineEnd text (at + fieldBytes * k))
   value xs
 
 -- the bytes of a line of k fields
-unfoldable pub lineBytes : ℕ → ℕ
+abbrev pub lineBytes : ℕ → ℕ
 lineBytes k = fieldBytes * k + 1
 
 -- k rows of m lengths, the first of them row i: "In a line the layout comes first, then fields left to right"
 unfoldable pub readRows : List ℕ → ℕ → ℕ → ℕ → ℕ → Read (List (List ℕ))
 readRows text at m i zero = value []
 readRows text at m i (suc k) = do
-  row ← readLine text at m
+  row ← readLine lengthAt text at m
   _ ← require (judgeRow i row)
   rows ← readRows text (at + lineBytes m) m (suc i) k
   value (row ∷ rows)
@@ -135,9 +143,9 @@ readRows text at m i (suc k) = do
 -- the rest of the line. 7 follows a district's last row."
 unfoldable pub readPiece : List ℕ → ℕ → ℕ → Read Piece
 readPiece text n at = do
-  m ← readField text at
+  m ← readField fieldAt text at
   _ ← require (judgeSize m)
-  vertices ← readLine text (at + fieldBytes) m
+  vertices ← readLine fieldAt text (at + fieldBytes) m
   _ ← require (judgeVertices n vertices)
   rows ← readRows text (at + lineBytes (suc m)) m 0 m
   _ ← require (judgeBlocks (record { vertices = vertices; rows = rows }))
@@ -171,7 +179,7 @@ readBody text n p = do
   _ ← require (judgeBounds n p)
   qs ← readPieces text n (lineBytes 2) p
   let at = lineBytes 2 + total (map pieceBytes qs)
-  question ← readLine text at 1
+  question ← readLine fieldAt text at 1
   let source = getD question 0 0
   _ ← require (judgeSource n source)
   _ ← require (judgeEnd text (at + lineBytes 1))
@@ -180,7 +188,7 @@ readBody text n p = do
 -- the text from front to back
 unfoldable pub readPlan : List ℕ → Read Plan
 readPlan text = do
-  first ← readLine text 0 2
+  first ← readLine fieldAt text 0 2
   readBody text (getD first 0 0) (getD first 1 0)
 
 -- "text over 60,000 bytes"

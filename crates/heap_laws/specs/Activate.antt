@@ -15,9 +15,9 @@ use borrow.Author.Tests.{ne-eqb}
 use Rattle.definitions.specs.Limits.{sum}
 use Rattle.definitions.specs.Lists.{mem, Every}
 use Rattle.definitions.specs.Network.{Rectangle}
-use Rattle.definitions.specs.Blocks.{Monge}
 use Rattle.definitions.specs.Model.{nobody, by, Model, least, through, parent, available, isActivated, activate, Interval, interval, runs, intervals, sameInterval, isKept, countNew}
 use Rattle.basics.specs.Tests.{clash, split-at, Order, less, more, order}
+use Rattle.heap_laws.specs.Inequality.{MongeAll}
 use Rattle.heap_laws.specs.Least.{beats, wins, loses}
 use Rattle.heap_laws.specs.Parents.{parent-snoc, parent-activated, available-parent}
 use Rattle.heap_laws.specs.Won.{won, won-between, Range, range}
@@ -127,7 +127,7 @@ activate-first e rows cols m g r v high none some =
     rw (none-kept e cols m none) at (activate-edit e rows cols m g r v (rw none) high 0 cols all-won some)
 
 -- at most three intervals are inserted: the new one, and the rests of the intervals at its two ends
-pub activate-new : (e : Rectangle) (rows cols : ℕ) → Monge e rows cols → (m : Model) → Sound e rows cols m
+pub activate-new : (e : Rectangle) (rows cols : ℕ) → MongeAll e rows cols → (m : Model) → Sound e rows cols m
     → (r v : ℕ) → r < rows → isActivated r (m .activated) ≡ false → m .floor ≤ v
     → countNew (intervals e cols (activate m r v)) (intervals e cols m) ≤ 3
 activate-new e rows cols ok m g r v hr new high =

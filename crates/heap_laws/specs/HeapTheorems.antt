@@ -22,6 +22,7 @@ use Rattle.definitions.specs.Network.{Rectangle}
 use Rattle.definitions.specs.Blocks.{Monge, isMonge}
 use Rattle.definitions.specs.Model.{by, LeastLeft, parent, available, extract, Model, fresh, Interval, interval, intervals, isKept, Distinct, Call, coded, judge, step, Trace, extend, trace, AllExtractLeast, allowances, Rising}
 use Rattle.heap_laws.specs.Inequality as inequality
+use Rattle.heap_laws.specs.Neighbours as neighbours
 use Rattle.heap_laws.specs.Least.{from-is, upTo-is}
 use Rattle.heap_laws.specs.Parents as parents
 use Rattle.heap_laws.specs.Won.{won, won-between, Range, SomeRange, range}
@@ -40,13 +41,13 @@ use Rattle.heap_laws.specs.Agree as agree
 
 -- The test of the check computes the inequality of neighbouring rows and columns, neither more nor less.
 pub monge-test : (e : Rectangle) (rows cols : ℕ) → (isMonge e rows cols ≡ true → Monge e rows cols) × (Monge e rows cols → isMonge e rows cols ≡ true)
-monge-test e rows cols = (inequality.isMonge-is e rows cols, inequality.isMonge-from e rows cols)
+monge-test e rows cols = (neighbours.isMonge-is e rows cols, neighbours.isMonge-from e rows cols)
 
 -- M1. The inequality holds for all pairs of rows and of columns: the neighbouring ones between them add up, first along the
 -- columns, then along the rows.
 pub all-pairs : (e : Rectangle) (rows cols : ℕ) → Monge e rows cols
     → (i j k l : ℕ) → i ≤ j → j < rows → k ≤ l → l < cols → e i k + e j l ≤ e i l + e j k
-all-pairs e rows cols ok i j k l ij hj kl hl = inequality.monge e rows cols ok i k l kl hl j ij hj
+all-pairs e rows cols ok = neighbours.monge-all e rows cols ok
 
 -- M2. Two rows a ≤ b with labels v and u cross at most once: where b is strictly below a, it is at every later column, and where a is
 -- strictly below b, it is at every earlier column. Both are M1 with the labels added on both sides.
@@ -54,7 +55,7 @@ pub one-crossing : (e : Rectangle) (rows cols : ℕ) → Monge e rows cols
     → (a b v u k l : ℕ) → a ≤ b → b < rows → k ≤ l → l < cols
     → (sum u (e b k) < sum v (e a k) → sum u (e b l) < sum v (e a l)) × (sum v (e a l) < sum u (e b l) → sum v (e a k) < sum u (e b k))
 one-crossing e rows cols ok a b v u k l ab hb kl hl =
-    (inequality.crossing-later e rows cols ok a b v u k l ab hb kl hl, inequality.crossing-earlier e rows cols ok a b v u k l ab hb kl hl)
+    (inequality.crossing-later e rows cols (all-pairs e rows cols ok) a b v u k l ab hb kl hl, inequality.crossing-earlier e rows cols (all-pairs e rows cols ok) a b v u k l ab hb kl hl)
 
 -- ---- the calls
 
@@ -84,7 +85,7 @@ module _ (e : Rectangle) (rows cols : ℕ) (ks : List Call) where
   -- M3. Parents rise with the columns. Were the parent q of d below the parent p of an earlier c, then neither sum would be below the
   -- parent's at the other's column, one of them strictly above by who was activated first: added up they contradict M1.
   pub parents-rise : Monge e rows cols → (c d p s q t : ℕ) → c ≤ d → d < cols → parent e (model .activated) c ≡ by p s → parent e (model .activated) d ≡ by q t → p ≤ q
-  parents-rise ok c d p s q t cd hd x y = parents.parents-rise e rows cols ok (model .activated) (trace-sound e rows cols ks .in-rows) c d cd hd p s q t x y
+  parents-rise ok c d p s q t cd hd x y = parents.parents-rise e rows cols (all-pairs e rows cols ok) (model .activated) (trace-sound e rows cols ks .in-rows) c d cd hd p s q t x y
 
   -- M4. The columns where a new row is strictly below every activated row are one range: beating a lower row goes on to later columns,
   -- beating a higher one to earlier columns. Its label is at least the floor, so by M5 none of them is extracted.
@@ -92,7 +93,7 @@ module _ (e : Rectangle) (rows cols : ℕ) (ks : List Call) where
       → SomeRange (won e (model .activated) r v) cols × ((c : ℕ) → won e (model .activated) r v c ≡ true → mem c (model .extracted) ≡ false)
   won-one-range ok r v hr high =
       let g = trace-sound e rows cols ks in
-      (range (won e (model .activated) r v) cols (won-between e rows cols ok (model .activated) (g .in-rows) r v hr), λ c h. won-available e rows cols model g r v c high h)
+      (range (won e (model .activated) r v) cols (won-between e rows cols (all-pairs e rows cols ok) (model .activated) (g .in-rows) r v hr), λ c h. won-available e rows cols model g r v c high h)
 
   -- M5. The floor lies between: an extracted column has a parent and a least sum at most the floor; any other column that has a parent
   -- has a least sum at least the floor. A new row has a label at least the floor, so it lowers no least sum below the floor; an
@@ -129,7 +130,7 @@ module _ (e : Rectangle) (rows cols : ℕ) (ks : List Call) where
   extraction-none k h none = extraction.extraction-none e rows cols model k h none
 
   pub extraction-some : (k : Call) → k .kind ≡ 2 → kept ≢ [] → (c : ℕ) × (s : ℕ) × LeastLeft e cols model c s
-      × (step e rows cols model k ≡ record { model = extract model (by c s); answer = record { code = 0; column = c; total = s } })
+      × (step e rows cols model k ≡ record { model = extract model (by c s); answer = record { code = 0; column = c; sum = s } })
   extraction-some k h some = extraction.extraction-some e rows cols model k h some
 
   -- Over all calls: each extraction answers none exactly if no interval is left where its turn comes, else the least that is left.
@@ -171,15 +172,15 @@ module _ (e : Rectangle) (rows cols : ℕ) (ks : List Call) where
   -- An activation, and so any call, inserts at most three: its own interval, and the rests of those at the two ends of the range won.
   pub activation-inserts : Monge e rows cols → (k : Call) → more k .inserted ≤ done .inserted + 3
   unfolding extend
-  activation-inserts ok k = rw trace-snoc (omega (arith, traces.step-new e rows cols ok model k (trace-sound e rows cols ks)))
+  activation-inserts ok k = rw trace-snoc (omega (arith, traces.step-new e rows cols (all-pairs e rows cols ok) model k (trace-sound e rows cols ks)))
 
   -- Over all calls: at most three by each activation that is done, two by each extraction that hands out a column, none by any other call.
   pub insertions-allowed : Monge e rows cols → done .inserted ≤ allowances ks (done .answers)
-  insertions-allowed ok = trace-allowed e rows cols ks ok
+  insertions-allowed ok = trace-allowed e rows cols ks (all-pairs e rows cols ok)
 
   -- Over all calls at most three for each activated row and two for each extracted column.
   pub insertions-few : Monge e rows cols → done .inserted ≤ 3 * length (model .activated) + 2 * length (model .extracted)
-  insertions-few ok = traces.trace-few e rows cols ok ks
+  insertions-few ok = traces.trace-few e rows cols (all-pairs e rows cols ok) ks
 
 -- ---- the places read
 

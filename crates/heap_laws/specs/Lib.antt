@@ -1,5 +1,6 @@
 -- The laws of the heap model of a Monge rectangle. `HeapTheorems` restates the main ones; the others are their parts.
 pub mod Inequality
+pub mod Neighbours
 pub mod Least
 pub mod Parents
 pub mod Won

@@ -18,11 +18,10 @@ use lib.ListN.{getD, length}
 use Rattle.definitions.specs.Limits.{sum}
 use Rattle.definitions.specs.Lists.{mem, Every}
 use Rattle.definitions.specs.Network.{Rectangle}
-use Rattle.definitions.specs.Blocks.{Monge}
 use Rattle.definitions.specs.Model.{Best, nobody, by, lesser, least, Activation, Model, through, parent, available, isActivated}
 use Rattle.basics.specs.Tests.{clash, or-left, or-right, split-at, Order, less, more, order, Truth, holds, fails, truth}
 use Rattle.basics.specs.Lists.{every-at}
-use Rattle.heap_laws.specs.Inequality.{crossing}
+use Rattle.heap_laws.specs.Inequality.{MongeAll, crossing}
 use Rattle.heap_laws.specs.Least.{lesser-nobody, lesser-assoc}
 
 -- ---- each row once
@@ -173,7 +172,7 @@ available-parent e m c p s h = go (truth (mem c (m .extracted)))
 
 -- Two columns c ≤ d with the parents p and q. Were q < p, then neither would be below the other at the other's column, and the one
 -- activated later would be strictly above: added up, the two sums contradict the inequality.
-module _ (e : Rectangle) (rows cols : ℕ) (ok : Monge e rows cols) (xs : List Activation) (in-rows : Every (λ a. a .row < rows) xs)
+module _ (e : Rectangle) (rows cols : ℕ) (ok : MongeAll e rows cols) (xs : List Activation) (in-rows : Every (λ a. a .row < rows) xs)
     (c d : ℕ) (cd : c ≤ d) (hd : d < cols) where
   rise : (i j s t : ℕ) → Earliest e xs c i s → Earliest e xs d j t → rowAt xs i ≤ rowAt xs j
   rise i j s t g h = ⊎-elim (λ (l : rowAt xs j < rowAt xs i). absurd (never l (order i j) (order j i))) (λ l. l) (split-at (rowAt xs j) (rowAt xs i))

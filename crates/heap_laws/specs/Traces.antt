@@ -11,8 +11,8 @@ use native.Mathlib.Nat.{add-zero}
 use native.Mathlib.Omega.{arith}
 use lib.ListN.{length, length-append}
 use Rattle.definitions.specs.Network.{Rectangle}
-use Rattle.definitions.specs.Blocks.{Monge}
 use Rattle.definitions.specs.Model.{Best, nobody, by, available, leastFrom, Model, fresh, activate, extract, intervals, countNew, judge, Call, Answer, coded, extractionOf, step, allowance, Trace, extend, trace}
+use Rattle.heap_laws.specs.Inequality.{MongeAll}
 use Rattle.heap_laws.specs.Calls.{Cases, activates, extracts, refuses, cases, step-activate, step-extract, step-refused, trace-induction}
 use Rattle.heap_laws.specs.Found.{Found, found-is}
 use Rattle.heap_laws.specs.Sound.{Sound, fresh-sound, extend-sound}
@@ -49,7 +49,7 @@ module _ (e : Rectangle) (rows cols : ℕ) where
   pub step-new-extract : (m : Model) (k : Call) → k .kind ≡ 2 → countNew (intervals e cols ((step e rows cols m k) .model)) (intervals e cols m) ≤ 2
   step-new-extract m k h = rw (step-extract e rows cols m k h) (extract-new e cols m (leastFrom (available e m) 0 cols) (found-is (available e m) 0 cols))
 
-  pub step-new : Monge e rows cols → (m : Model) (k : Call) → Sound e rows cols m → countNew (intervals e cols ((step e rows cols m k) .model)) (intervals e cols m) ≤ 3
+  pub step-new : MongeAll e rows cols → (m : Model) (k : Call) → Sound e rows cols m → countNew (intervals e cols ((step e rows cols m k) .model)) (intervals e cols m) ≤ 3
   step-new ok m k g = go (cases rows m k)
     where
       go : Cases rows m k → countNew (intervals e cols ((step e rows cols m k) .model)) (intervals e cols m) ≤ 3
@@ -65,7 +65,7 @@ module _ (e : Rectangle) (rows cols : ℕ) where
   extract-few m nobody f = (refl, omega (arith, countNew-same (intervals e cols m)))
   extract-few m (by c s) f = (refl, omega (arith, extract-new e cols m (by c s) f, length-append (m .extracted) (c ∷ [])))
 
-  module _ (ok : Monge e rows cols) where
+  module _ (ok : MongeAll e rows cols) where
     pub extend-few : (t : Trace) (k : Call) → Sound e rows cols (t .model) → Few t → Few (extend e rows cols t k)
     unfolding extend activate
     extend-few t k g h = go (cases rows m k)

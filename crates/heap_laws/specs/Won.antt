@@ -14,10 +14,9 @@ use lib.ListN.{length}
 use Rattle.definitions.specs.Limits.{sum}
 use Rattle.definitions.specs.Lists.{Every}
 use Rattle.definitions.specs.Network.{Rectangle}
-use Rattle.definitions.specs.Blocks.{Monge}
 use Rattle.definitions.specs.Model.{Best, nobody, by, Activation, parent}
 use Rattle.basics.specs.Tests.{clash, below-suc, split-at, Order, less, more, order, Truth, holds, fails, truth}
-use Rattle.heap_laws.specs.Inequality.{crossing-later, crossing-earlier}
+use Rattle.heap_laws.specs.Inequality.{MongeAll, crossing-later, crossing-earlier}
 use Rattle.heap_laws.specs.Least.{beats, beats-is}
 use Rattle.heap_laws.specs.Parents.{rowAt, labelAt, sumAt, IsParent, parent-is, parent-nobody, row-in}
 
@@ -45,7 +44,7 @@ won-parent e xs r v c p s q l = rw q (lt-ltb (sum v (e r c)) s l)
 abbrev pub Convex : (ℕ → Bool) → ℕ → Type 0
 Convex p n = (a c b : ℕ) → a ≤ c → c ≤ b → b < n → p a ≡ true → p b ≡ true → p c ≡ true
 
-module _ (e : Rectangle) (rows cols : ℕ) (ok : Monge e rows cols) (xs : List Activation) (in-rows : Every (λ a. a .row < rows) xs)
+module _ (e : Rectangle) (rows cols : ℕ) (ok : MongeAll e rows cols) (xs : List Activation) (in-rows : Every (λ a. a .row < rows) xs)
     (r v : ℕ) (hr : r < rows) where
   module _ (c d : ℕ) (cd : c ≤ d) (hd : d < cols) (p s : ℕ) where
     -- a row that wins column c wins every later one with a parent below the row

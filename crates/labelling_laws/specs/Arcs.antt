@@ -16,7 +16,7 @@ use Rattle.definitions.specs.Lists.{mem, total, upFrom, Every}
 use Rattle.definitions.specs.Network.{Piece, sizeOf, noPiece, ArcIn, Arc, Walk}
 use Rattle.definitions.specs.Blocks.{Window, windowsOf, rowsOf, logarithm, Block, blockOf, blocksOf, blocks, noBlock, passes, weight}
 use Rattle.basics.specs.Lists.{every-at, every-append, Any, any-at, at-any, any-left, any-right, any-cases, any-map, any-back, total-append, Different}
-use Rattle.heap_laws.specs.Inequality.{isMonge-is}
+use Rattle.heap_laws.specs.Neighbours.{isMonge-all}
 use Rattle.splits.specs.Windows.{Inside, windows-inside, pair-once, spanned, Spans, rows-few, cols-few}
 use Rattle.basics.specs.Places.{different-at}
 use Rattle.basics.specs.Pieces.{block-rows, block-cols, row-vertex, col-vertex, entry-at}
@@ -44,7 +44,7 @@ module _ (n : ℕ) where
         let lc : c < w .cols = rw block-cols at l in
         rw (col-vertex q w c lc) (every-at (λ v. (1 ≤ v) × (v ≤ n)) (q .vertices) (su .vertices-in) (w .col0 + (w .cols - 1 - c)) 0 (omega (arith, i .cols-in)));
     short = λ r c lr lc. rw (entry-at q w r c (rw block-rows at lr) (rw block-cols at lc)) (su .short (w .row0 + r) (w .col0 + (w .cols - 1 - c)));
-    monge = isMonge-is _ _ _ ok;
+    monge = isMonge-all _ _ _ ok;
   }
 
   fit-all : (q : Piece) → Suits n q → (ws : List Window) → Every (Inside (sizeOf q)) ws → Every (λ b. passes b ≡ true) (map (blockOf q) ws) → Every (Fit n) (map (blockOf q) ws)

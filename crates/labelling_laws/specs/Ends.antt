@@ -16,7 +16,7 @@ use Rattle.definitions.specs.Limits.{maxLabel}
 use Rattle.definitions.specs.Lists.{total, Every}
 use Rattle.definitions.specs.Model.{Best, nobody, by}
 use Rattle.definitions.specs.Blocks.{Block}
-use Rattle.definitions.specs.Labelling.{BlockState, extraction, freshBlock, apply, leastOf, activateVertex, State, labelOf, settleAs, settle, noBlockState, chosen, placeIn, extractFrom, advance, steps, start, columns, labelling, reached, extractions, insertions}
+use Rattle.definitions.specs.Labelling.{BlockState, extraction, freshBlock, apply, leastOf, activateVertex, settledAt, State, labelOf, settleAs, settle, noBlockState, chosen, placeIn, extractFrom, advance, steps, start, columns, labelling, reached, extractions, insertions}
 use Rattle.basics.specs.Lists.{every-imp, every-map, map-same, total-set, total-le, Different}
 use Rattle.heap_laws.specs.Found.{Lowest, found-is}
 use Rattle.labelling_laws.specs.Labels.{label-new, labelled}
@@ -168,7 +168,7 @@ module _ (bs : List Block) (n source : ℕ) (given : Setting bs n source) where
       let z : columnVertex (blockAt st i) (ch .col) ≡ v =
       let same : by (ch .col) s ≡ by c s = sym (ch .here) ∙ here in
       let y : ch .col ≡ c = cc in rw y in
-      let top : s ≤ maxLabel = labels-short (suc m) v s (rw (q, here, h) (label-new v s (st .settled) h)) in
+      let top : s ≤ maxLabel = labels-short (suc m) v s (rw (q, here, h) (label-new v (settledAt v s) (st .settled) refl h)) in
       every-imp _ _ (set (st .blocks) i (apply (blockAt st i) extraction)) (λ b good. welcome n (st .settled) _ s v h top b good)
       (between bs n source (given .small) st (held .level) i s (held .inv) ch v z h)
     where

@@ -18,11 +18,12 @@ use lib.ListN.{getD, length, length-append}
 use Rattle.definitions.specs.Limits.{maxLength, maxLabel}
 use Rattle.definitions.specs.Lists.{mem, Every}
 use Rattle.definitions.specs.Network.{Rectangle}
-use Rattle.definitions.specs.Blocks.{Monge, Block}
+use Rattle.definitions.specs.Blocks.{Block}
 use Rattle.definitions.specs.Model.{Best, nobody, by, lesser, least, Activation, Model, through, parent, available, leastFrom, isActivated, judge, step, activate, extract, Trace, extend}
-use Rattle.definitions.specs.Labelling.{BlockState, activation, extraction, freshBlock, apply, leastOf, placeOf, activateAt, activateVertex, Settled, labelOf}
+use Rattle.definitions.specs.Labelling.{BlockState, activation, extraction, freshBlock, apply, leastOf, placeOf, activateAt, activateVertex, Settled, settledAt, labelOf}
 use Rattle.basics.specs.Tests.{clash, Truth, holds, fails, truth, Equal, equal, differ, equality}
 use Rattle.basics.specs.Lists.{every-snoc, Different, mem-snoc}
+use Rattle.heap_laws.specs.Inequality.{MongeAll}
 use Rattle.heap_laws.specs.Least.{From, from-lesser}
 use Rattle.heap_laws.specs.Parents.{parent-snoc, available-parent}
 use Rattle.heap_laws.specs.Found.{Lowest, found-is}
@@ -38,7 +39,7 @@ pub record Fit (n : ℕ) (b : Block) : Type 0 where
   pub rows-differ : Different (b .rows)
   pub cols-in : (c : ℕ) → c < length (b .cols) → (1 ≤ getD (b .cols) c 0) × (getD (b .cols) c 0 ≤ n)
   pub short : (r c : ℕ) → r < length (b .rows) → c < length (b .cols) → b .lengths r c ≤ maxLength
-  pub monge : Monge (b .lengths) (length (b .rows)) (length (b .cols))
+  pub monge : MongeAll (b .lengths) (length (b .rows)) (length (b .cols))
 
 -- a vertex has a label, at most `level` and at most the least sum x
 pub record Reached (xs : List Settled) (level v : ℕ) (x : Best) : Type 0 where
@@ -90,7 +91,7 @@ later b old xs ys level level′ t l mono from f = record {
 
 -- ---- a call
 
-module _ (b : Block) (monge : Monge (b .lengths) (length (b .rows)) (length (b .cols))) (old xs : List Settled) (level : ℕ) (t : Trace) (f : Fine b old xs level t) where
+module _ (b : Block) (monge : MongeAll (b .lengths) (length (b .rows)) (length (b .cols))) (old xs : List Settled) (level : ℕ) (t : Trace) (f : Fine b old xs level t) where
   abbrev e : Rectangle
   e = b .lengths
 
@@ -195,7 +196,7 @@ module _ (n : ℕ) (old xs : List Settled) (level : ℕ) where
       simp (lt-leb (length (s .block .rows)) r (i .0), fresh-row v no-label s h r p, le-ltb maxLabel level top, le-ltb level (s .trace .model .floor) (h .fine .floor))
 
   pub activate-good : (v : ℕ) → labelOf v old ≡ none → level ≤ maxLabel
-      → (s : BlockState) → Good n old xs level s → Good n (old ++ record { vertex = v; label = level } ∷ []) xs level (activateVertex v level s)
+      → (s : BlockState) → Good n old xs level s → Good n (old ++ settledAt v level ∷ []) xs level (activateVertex v level s)
   unfolding activateVertex activateAt apply activatedOne
   activate-good v no-label top s h = go (placeOf v 0 (b .rows)) refl
     where
@@ -203,7 +204,7 @@ module _ (n : ℕ) (old xs : List Settled) (level : ℕ) where
       b = s .block
 
       now : List Settled
-      now = old ++ record { vertex = v; label = level } ∷ []
+      now = old ++ settledAt v level ∷ []
 
       go : (y : Option ℕ) → placeOf v 0 (b .rows) ≡ y → Good n now xs level (activateAt y level s)
       go none p = record {

@@ -20,7 +20,7 @@ use Rattle.definitions.specs.Lists.{mem, Every}
 use Rattle.definitions.specs.Network.{Rectangle, Walk, stay, then}
 use Rattle.definitions.specs.Blocks.{Block, noBlock}
 use Rattle.definitions.specs.Model.{Best, nobody, by, least, Model, parent, available, leastFrom}
-use Rattle.definitions.specs.Labelling.{BlockState, extraction, freshBlock, apply, leastOf, activateVertex, Settled, State, labelOf, settleAs, settle, noBlockState, chosen, placeIn, extractFrom, advance, steps, start}
+use Rattle.definitions.specs.Labelling.{BlockState, extraction, freshBlock, apply, leastOf, activateVertex, Settled, settledAt, State, labelOf, settleAs, settle, noBlockState, chosen, placeIn, extractFrom, advance, steps, start}
 use Rattle.basics.specs.Lists.{every-at, every-set, every-snoc, every-imp, every-map, every-all, map-same, map-back, Different, different-snoc, at-most}
 use Rattle.heap_laws.specs.Least.{From, from-le}
 use Rattle.heap_laws.specs.Parents.{available-parent, parent-row, parent-activated, parent-sum, rowLabel}
@@ -97,7 +97,7 @@ module _ (bs : List Block) (n source : ℕ) where
     -- a vertex that is not yet settled is settled, and activated
     settle-inv : (st : State) (v l : ℕ) → labelOf v (st .settled) ≡ none
         → map (λ s. s .block) (st .blocks) ≡ bs
-        → Every (Good n (st .settled) (st .settled ++ record { vertex = v; label = l } ∷ []) l) (st .blocks)
+        → Every (Good n (st .settled) (st .settled ++ settledAt v l ∷ []) l) (st .blocks)
         → Every (λ x. Labelled l (length (st .settled)) (x .vertex) (x .label)) (st .settled)
         → Different (map (λ x. x .vertex) (st .settled))
         → Labelled l (suc (length (st .settled))) v l
@@ -105,11 +105,11 @@ module _ (bs : List Block) (n source : ℕ) where
     unfolding settleAs
     settle-inv st v l no-label same good ls diff one =
         let old : List Settled = st .settled in
-        let now : List Settled = old ++ record { vertex = v; label = l } ∷ [] in
+        let now : List Settled = old ++ settledAt v l ∷ [] in
         let count : length now ≡ suc (length old) = simp length-append (omega arith) in
         let all : Every (λ x. Labelled l (length now) (x .vertex) (x .label)) now = rw count (every-snoc (λ x. Labelled l (suc (length old)) (x .vertex) (x .label)) old _
         (every-imp _ _ old (λ x h. grow l l (length old) (suc (length old)) (le-refl l) (omega arith) (x .vertex) (x .label) h) ls) one) in
-        let vertices : Different (map (λ x. x .vertex) now) = rw (map-snoc old (record { vertex = v; label = l }))
+        let vertices : Different (map (λ x. x .vertex) now) = rw (map-snoc old (settledAt v l))
         (different-snoc (map (λ x. x .vertex) old) v diff (unlabelled v old no-label)) in
         let top : l ≤ maxLabel = omega (arith, one .short, settled-few l (length now) now vertices all) in
         record {
@@ -189,11 +189,11 @@ module _ (bs : List Block) (n source : ℕ) where
 
     -- after the extraction and before the activations of a step
     pub between : (st : State) (level i s : ℕ) → Inv st level → (ch : Choice st level i s) → (v : ℕ) → columnVertex (blockAt st i) (ch .col) ≡ v → labelOf v (st .settled) ≡ none
-        → Every (Good n (st .settled) (st .settled ++ record { vertex = v; label = s } ∷ []) s) (set (st .blocks) i (apply (blockAt st i) extraction))
+        → Every (Good n (st .settled) (st .settled ++ settledAt v s ∷ []) s) (set (st .blocks) i (apply (blockAt st i) extraction))
     between st level i s inv ch v z h =
-        let now : List Settled = st .settled ++ record { vertex = v; label = s } ∷ [] in
+        let now : List Settled = st .settled ++ settledAt v s ∷ [] in
         let all : Every (Good n (st .settled) now s) (st .blocks) = raised st level i s now inv ch (λ v l h. label-old v (st .settled) _ l h) in
-        every-set _ (st .blocks) i _ all (extract-good n (st .settled) now s (blockAt st i) (ch .col) (ch .here) s (rw z (label-new v s (st .settled) h)) (le-refl s)
+        every-set _ (st .blocks) i _ all (extract-good n (st .settled) now s (blockAt st i) (ch .col) (ch .here) s (rw z (label-new v (settledAt v s) (st .settled) refl h)) (le-refl s)
         (every-at _ (st .blocks) all i noBlockState (ch .number-in)))
 
     reach-inv : (st : State) (level i s : ℕ) → Inv st level → (ch : Choice st level i s) → (v : ℕ) → columnVertex (blockAt st i) (ch .col) ≡ v → Status v (st .settled)
@@ -226,14 +226,14 @@ module _ (bs : List Block) (n source : ℕ) where
     unfolding start settle labelOf freshBlock available parent least mem
     start-inv fits low high = settle-inv (record { blocks = map freshBlock bs; settled = [] }) source 0 refl
         (map-back freshBlock (λ s. s .block) bs (λ b. refl))
-        (every-map (Fit n) (Good n [] (record { vertex = source; label = 0 } ∷ []) 0) freshBlock bs one fits)
+        (every-map (Fit n) (Good n [] (settledAt source 0 ∷ []) 0) freshBlock bs one fits)
         tt tt
         (record { low = low; high = high; near = le-refl 0; walk = stay; short = omega arith })
       where
-        one : (b : Block) → Fit n b → Good n [] (record { vertex = source; label = 0 } ∷ []) 0 (freshBlock b)
+        one : (b : Block) → Fit n b → Good n [] (settledAt source 0 ∷ []) 0 (freshBlock b)
         one b f = record {
           fit = f;
-          fine = later b [] [] (record { vertex = source; label = 0 } ∷ []) 0 0 ((freshBlock b) .trace) (le-refl 0)
+          fine = later b [] [] (settledAt source 0 ∷ []) 0 0 ((freshBlock b) .trace) (le-refl 0)
               (λ v l h. let z : _≡_ {A = ℕ} 0 1 = cc in absurd (omega arith)) (λ c l. tt) (fresh-fine b);
         }
 

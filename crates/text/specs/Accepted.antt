@@ -11,7 +11,7 @@ use Rattle.basics.specs.Lists.{every-append}
 use Rattle.definitions.specs.Lists.{total, firstCause, Every}
 use Rattle.definitions.specs.Network.{Piece, sizeOf}
 use Rattle.definitions.specs.Judgement.{judgeBounds, judgeSize, judgeVertices, judgeRow, judgeRows, judgeBlocks, judgeSource, judgePiece, judgeFrom, judgeNetwork}
-use Rattle.definitions.specs.Text.{fieldBytes, value, require, readField, readFields, judgeLineEnd, readLine, lineBytes, readRows, readPiece, pieceBytes, readPieces, Plan, judgeEnd, readBody, readPlan, sizesOf, verticesOf, lengthsOf}
+use Rattle.definitions.specs.Text.{fieldBytes, fieldAt, lengthAt, FieldReading, value, require, readField, readFields, judgeLineEnd, readLine, lineBytes, readRows, readPiece, pieceBytes, readPieces, Plan, judgeEnd, readBody, readPlan, sizesOf, verticesOf, lengthsOf}
 use Rattle.basics.specs.Causes.{size-in}
 use Rattle.text.specs.Reading.{pieceOf, value-same, bind-value, require-value}
 use Rattle.text.specs.Pieces.{Shaped}
@@ -19,20 +19,20 @@ use Rattle.text.specs.Back.{size-back, piece-back}
 
 -- ---- what was read, part by part
 
-fields-length : (text : List ℕ) (at k : ℕ) (xs : List ℕ) → readFields text at k ≡ value xs → length xs ≡ k
+fields-length : (field : FieldReading) (text : List ℕ) (at k : ℕ) (xs : List ℕ) → readFields field text at k ≡ value xs → length xs ≡ k
 unfolding readFields
-fields-length text at zero xs e = ap length (sym (value-same [] xs e))
-fields-length text at (suc k) xs e =
-    let a = bind-value (readField text at) _ xs e in
-    let b = bind-value (readFields text (at + fieldBytes) k) _ xs (a .2) in
-    ap length (sym (value-same (a .0 ∷ b .0) xs (b .2))) ∙ ap suc (fields-length text (at + fieldBytes) k (b .0) (b .1))
+fields-length field text at zero xs e = ap length (sym (value-same [] xs e))
+fields-length field text at (suc k) xs e =
+    let a = bind-value (readField field text at) _ xs e in
+    let b = bind-value (readFields field text (at + fieldBytes) k) _ xs (a .2) in
+    ap length (sym (value-same (a .0 ∷ b .0) xs (b .2))) ∙ ap suc (fields-length field text (at + fieldBytes) k (b .0) (b .1))
 
-line-length : (text : List ℕ) (at k : ℕ) (xs : List ℕ) → readLine text at k ≡ value xs → length xs ≡ k
+line-length : (field : FieldReading) (text : List ℕ) (at k : ℕ) (xs : List ℕ) → readLine field text at k ≡ value xs → length xs ≡ k
 unfolding readLine
-line-length text at k xs e =
-    let a = bind-value (readFields text at k) _ xs e in
+line-length field text at k xs e =
+    let a = bind-value (readFields field text at k) _ xs e in
     let b = bind-value (require (judgeLineEnd text (at + fieldBytes * k))) _ xs (a .2) in
-    ap length (sym (value-same (a .0) xs (b .2))) ∙ fields-length text at k (a .0) (a .1)
+    ap length (sym (value-same (a .0) xs (b .2))) ∙ fields-length field text at k (a .0) (a .1)
 
 -- rows that were judged one by one
 record Rows (m i k : ℕ) (rows : List (List ℕ)) : Type 0 where
@@ -50,13 +50,13 @@ rows-accepted text at m i zero rows e =
     let q : [] ≡ rows = value-same [] rows e in
     subst (λ (x : List (List ℕ)). Rows m i 0 x) q (record { judged-rows = refl; count = refl; wide = tt })
 rows-accepted text at m i (suc k) rows e =
-    let a = bind-value (readLine text at m) _ rows e in
+    let a = bind-value (readLine lengthAt text at m) _ rows e in
     let b = bind-value (require (judgeRow i (a .0))) _ rows (a .2) in
     let c = bind-value (readRows text (at + lineBytes m) m (suc i) k) _ rows (b .2) in
     let r = rows-accepted text (at + lineBytes m) m (suc i) k (c .0) (c .1) in
     let z = require-value (judgeRow i (a .0)) (b .0) (b .1) in
     let q : a .0 ∷ c .0 ≡ rows = value-same (a .0 ∷ c .0) rows (c .2) in
-    subst (λ (x : List (List ℕ)). Rows m i (suc k) x) q (record { judged-rows = rows-cons i (a .0) (c .0) z (r .judged-rows); count = ap suc (r .count); wide = (line-length text at m (a .0) (a .1), r .wide) })
+    subst (λ (x : List (List ℕ)). Rows m i (suc k) x) q (record { judged-rows = rows-cons i (a .0) (c .0) z (r .judged-rows); count = ap suc (r .count); wide = (line-length lengthAt text at m (a .0) (a .1), r .wide) })
 
 -- a piece that was judged
 pub record Accepted (n : ℕ) (q : Piece) : Type 0 where
@@ -76,14 +76,14 @@ piece-shaped n m vertices rows long size listed r blocks =
 piece-accepted : (text : List ℕ) (n at : ℕ) (q : Piece) → readPiece text n at ≡ value q → Accepted n q
 unfolding readPiece
 piece-accepted text n at q e =
-    let a = bind-value (readField text at) _ q e in
+    let a = bind-value (readField fieldAt text at) _ q e in
     let m = a .0 in
     let b = bind-value (require (judgeSize m)) _ q (a .2) in
-    let c = bind-value (readLine text (at + fieldBytes) m) _ q (b .2) in
+    let c = bind-value (readLine fieldAt text (at + fieldBytes) m) _ q (b .2) in
     let d = bind-value (require (judgeVertices n (c .0))) _ q (c .2) in
     let f = bind-value (readRows text (at + lineBytes (suc m)) m 0 m) _ q (d .2) in
     let g = bind-value (require (judgeBlocks (pieceOf (c .0) (f .0)))) _ q (f .2) in
-    let long = line-length text (at + fieldBytes) m (c .0) (c .1) in
+    let long = line-length fieldAt text (at + fieldBytes) m (c .0) (c .1) in
     let r = rows-accepted text (at + lineBytes (suc m)) m 0 m (f .0) (f .1) in
     let size = require-value (judgeSize m) (b .0) (b .1) in
     let vertices = require-value (judgeVertices n (c .0)) (d .0) (d .1) in
@@ -118,7 +118,7 @@ body-accepted text n p plan e =
     let a = bind-value (require (judgeBounds n p)) _ plan e in
     let b = bind-value (readPieces text n (lineBytes 2) p) _ plan (a .2) in
     let at = lineBytes 2 + total (map pieceBytes (b .0)) in
-    let c = bind-value (readLine text at 1) _ plan (b .2) in
+    let c = bind-value (readLine fieldAt text at 1) _ plan (b .2) in
     let source = getD (c .0) 0 0 in
     let d = bind-value (require (judgeSource n source)) _ plan (c .2) in
     let f = bind-value (require (judgeEnd text (at + lineBytes 1))) _ plan (d .2) in
@@ -133,7 +133,7 @@ body-accepted text n p plan e =
 pub plan-accepted : (text : List ℕ) (plan : Plan) → readPlan text ≡ value plan → Sound plan
 unfolding readPlan
 plan-accepted text plan e =
-    let a = bind-value (readLine text 0 2) _ plan e in
+    let a = bind-value (readLine fieldAt text 0 2) _ plan e in
     body-accepted text (getD (a .0) 0 0) (getD (a .0) 1 0) plan (a .2)
 
 -- ---- the buffers

@@ -18,17 +18,17 @@ use lib.Seq.{drop-at}
 use borrow.Author.Tests.{le-leb}
 use Rattle.basics.specs.Buffers.{flatMap-snoc, put, put-padded, set-padded}
 use Rattle.basics.specs.Lists.{every-imp, every-snoc, length-padded, total-append}
-use Rattle.definitions.specs.Limits.{sizePlaces, vertexPlaces, lengthPlaces, rowPlaces, tablePlaces}
+use Rattle.definitions.specs.Limits.{maxSize, sizePlaces, vertexPlaces, lengthPlaces, rowPlaces, tablePlaces}
 use Rattle.definitions.specs.Lists.{padded, total, within, Every}
 use Rattle.definitions.specs.Network.{Piece, sizeOf}
-use Rattle.definitions.specs.Text.{refused, value, require, readField, readLine, lineBytes, readRows, readPiece, pieceBytes, readPieces, sizesOf, verticesOf, tableOf, lengthsOf}
+use Rattle.definitions.specs.Text.{fieldBytes, fieldAt, refused, value, require, readField, readLine, lineBytes, readRows, readPiece, pieceBytes, readPieces, sizesOf, verticesOf, tableOf, lengthsOf}
 use Rattle.definitions.specs.Judgement.{judgeSize, judgeVertices, judgeBlocks}
 use Rattle.checks.specs.Lent.{judgeTable}
 use Rattle.basics.specs.Causes.{size-in}
 use Rattle.checks.specs.Pieces.{table-blocks}
 use Rattle.monge.specs.Matrix.{rowsIn}
 use Rattle.text.specs.Outcomes.{Came, RowsLeft}
-use Rattle.text.specs.Reading.{after, after-after, after-none, value-same, bind-value, require-value, field-in, judged, judged-stop, pieceOf, readSized, piece-stop, piece-go, vertices-stop, table-stop, table-go, pieces-go, pieces-stop}
+use Rattle.text.specs.Reading.{after, after-after, after-none, value-same, bind-value, require-value, field-inside, field-in, judged, judged-stop, pieceOf, readSized, piece-stop, piece-go, vertices-stop, table-stop, table-go, pieces-go, pieces-stop}
 use Rattle.text.specs.Buffers.{padded-inner}
 use Rattle.text.specs.Steps.{came-out, came-go, came-judged}
 use Rattle.text.specs.Rows.{rows-back, line-end-in}
@@ -128,22 +128,25 @@ table-clear qs sizes vertices lengths held d count room =
 
 pub record Sized (text : List ℕ) (at m : ℕ) : Type 0 where
   pub low : 1 ≤ m
-  pub high : m ≤ 24
-  pub inside : at + 6 ≤ length text
+  pub high : m ≤ maxSize
+  pub inside : at + fieldBytes ≤ length text
 
-pub size-facts : (text : List ℕ) (at c m : ℕ) → Came (judged judgeSize (readField text at)) c (λ x. m ≡ x) → c ≡ 0 → Sized text at m
+pub size-facts : (text : List ℕ) (at c m : ℕ) → Came (judged judgeSize (readField fieldAt text at)) c (λ x. m ≡ x) → c ≡ 0 → Sized text at m
 unfolding judged
 size-facts text at c m came z =
     let d = came .done z in
-    let a = bind-value (readField text at) _ (d .0) (d .1) in
+    let a = bind-value (readField fieldAt text at) _ (d .0) (d .1) in
     let b = bind-value (require (judgeSize (a .0))) _ (d .0) (a .2) in
     let same : a .0 ≡ m = value-same (a .0) (d .0) (b .2) ∙ sym (d .2) in
     let bounds = size-in (a .0) (require-value (judgeSize (a .0)) (b .0) (b .1)) in
-    record { low = omega (arith, same, bounds); high = omega (arith, same, bounds); inside = field-in text at (a .0) (a .1) }
+    record { low = omega (arith, same, bounds); high = omega (arith, same, bounds); inside = field-in fieldAt field-inside text at (a .0) (a .1) }
 
--- the bytes of a table's lines are few
-pub table-few : (m : ℕ) → m ≤ 24 → m * (6 * m + 1) ≤ 3480
-table-few m h = mul-le-mul h (let z : 6 * m + 1 ≤ 145 = (omega arith) in z)
+-- the bytes of a table's lines: at most those of the largest table, so that a place behind them fits its type
+abbrev pub maxTableBytes : ℕ
+maxTableBytes = maxSize * lineBytes maxSize
+
+pub table-few : (m : ℕ) → m ≤ maxSize → m * lineBytes m ≤ maxTableBytes
+table-few m h = mul-le-mul h (let z : lineBytes m ≤ lineBytes maxSize = (omega arith) in z)
 
 -- ---- a table
 
@@ -157,7 +160,7 @@ table-broken text at m c left came h vs e = judged-out-of (came .stopped h)
     judged-out-of : readRows text at m 0 m ≡ refused c → Came (judged (λ rows. judgeBlocks (pieceOf vs rows)) (readRows text at m 0 m)) c (RowsLeft text at m left)
     judged-out-of q = came-out (judged (λ rows. judgeBlocks (pieceOf vs rows)) (readRows text at m 0 m)) (RowsLeft text at m left) c h (judged-stop (λ rows. judgeBlocks (pieceOf vs rows)) (readRows text at m 0 m) c q)
 
-pub table-judged : (text : List ℕ) (at m c k : ℕ) (table : List ℕ) → Came (readRows text at m 0 m) c (RowsLeft text at m table) → c ≡ 0 → 1 ≤ m → m ≤ 24 → length table ≡ tablePlaces
+pub table-judged : (text : List ℕ) (at m c k : ℕ) (table : List ℕ) → Came (readRows text at m 0 m) c (RowsLeft text at m table) → c ≡ 0 → 1 ≤ m → m ≤ maxSize → length table ≡ tablePlaces
     → k ≡ judgeTable m table → TableRead text at m k table
 unfolding judgeSize within rowsIn sizeOf
 table-judged text at m c k table came z low high long e vs n =
@@ -216,29 +219,28 @@ pub record SizedLeft (text : List ℕ) (at m d : ℕ) (vertices lengths vertices
   pub lengths-put : lengths′ ≡ put lengths (tablePlaces * d) (tableOf q)
   pub inside : at + pieceBytes q ≤ length text
 
-module _ (text : List ℕ) (n at m k b : ℕ) (vs : List ℕ) (same : k ≡ m) (line : Came (judged (judgeVertices n) (readLine text (at + 6) k)) b (λ xs. vs ≡ xs)) where
+module _ (text : List ℕ) (n at m k b : ℕ) (vs : List ℕ) (same : k ≡ m) (line : Came (judged (judgeVertices n) (readLine fieldAt text (at + fieldBytes) k)) b (λ xs. vs ≡ xs)) where
   pub sized-unlisted : (P : Piece → Type 0) → b ≢ 0 → Came (readSized text n at m) b P
   sized-unlisted P h = came-out (readSized text n at m) P b h (vertices-stop text n at m b ((rw same at line) .stopped h))
 
   module _ (fine : b ≡ 0) where
-    listed : judged (judgeVertices n) (readLine text (at + 6) m) ≡ value vs
+    listed : judged (judgeVertices n) (readLine fieldAt text (at + fieldBytes) m) ≡ value vs
     listed = let d = (rw same at line) .done fine in d .1 ∙ ap value (sym (d .2))
 
     -- where the rows begin
-    pub rows-place : at + 6 * (m + 1) + 1 ≤ length text
-    rows-place = omega (arith, line-end-in (judgeVertices n) text (at + 6) m vs listed)
+    pub rows-place : at + fieldBytes * (m + 1) + 1 ≤ length text
+    rows-place = omega (arith, line-end-in fieldAt (judgeVertices n) text (at + fieldBytes) m vs listed)
 
-    module _ (long : length vs ≡ m) (f : ℕ) (table : List ℕ) (read : TableRead text (at + 6 * (m + 1) + 1) m f table) where
-      where-rows : at + 6 * (m + 1) + 1 ≡ at + lineBytes (suc m)
-      unfolding lineBytes
+    module _ (long : length vs ≡ m) (f : ℕ) (table : List ℕ) (read : TableRead text (at + fieldBytes * (m + 1) + 1) m f table) where
+      where-rows : at + fieldBytes * (m + 1) + 1 ≡ at + lineBytes (suc m)
       where-rows = omega arith
 
       rows-came : Came (judged (λ rows. judgeBlocks (pieceOf vs rows)) (readRows text (at + lineBytes (suc m)) m 0 m)) f (RowsLeft text (at + lineBytes (suc m)) m table)
       rows-came = rw where-rows at (read vs long)
 
-      module _ (low : 1 ≤ m) (high : m ≤ 24) (d : ℕ) (v l : List ℕ) where
+      module _ (low : 1 ≤ m) (high : m ≤ maxSize) (d : ℕ) (v l : List ℕ) where
         sized-left : (rows : List (List ℕ)) → RowsLeft text (at + lineBytes (suc m)) m table rows → SizedLeft text at m d v l (put v (rowPlaces * d) vs) (put l (tablePlaces * d) table) (pieceOf vs rows)
-        unfolding lineBytes pieceBytes sizeOf tableOf
+        unfolding pieceBytes sizeOf tableOf
         sized-left rows left = record {
           shape = record { low = rw long low; high = rw long high; tall = left .tall ∙ sym long; wide = rw long (left .wide) };
           size = long;
@@ -254,7 +256,7 @@ module _ (text : List ℕ) (n at m k b : ℕ) (vs : List ℕ) (same : k ≡ m) (
         }
 
 -- a piece, from its size and what follows
-module _ (text : List ℕ) (n at c m : ℕ) (size : Came (judged judgeSize (readField text at)) c (λ x. m ≡ x)) where
+module _ (text : List ℕ) (n at c m : ℕ) (size : Came (judged judgeSize (readField fieldAt text at)) c (λ x. m ≡ x)) where
   pub piece-unsized : (P : Piece → Type 0) → c ≢ 0 → Came (readPiece text n at) c P
   piece-unsized P h = came-out (readPiece text n at) P c h (piece-stop text n at c (size .stopped h))
 
@@ -267,12 +269,12 @@ module _ (text : List ℕ) (n at c m : ℕ) (size : Came (judged judgeSize (read
 
     -- behind the d pieces that the buffers hold
     pub piece-read : b ≡ 0 → (qs : List Piece) (s : List ℕ) → length qs ≡ d → d < sizePlaces → Held qs s v l
-        → Came (readPiece text n at) 0 (PieceLeft text at qs (at + 6 * (m + 1) + 1 + m * (6 * m + 1)) (set s d m) v′ l′)
-    unfolding lineBytes pieceBytes
+        → Came (readPiece text n at) 0 (PieceLeft text at qs (at + fieldBytes * (m + 1) + 1 + m * lineBytes m) (set s d m) v′ l′)
+    unfolding pieceBytes
     piece-read z qs s count room held =
         let w = rest .done z in
         let left = w .2 in
-        let reached : at + 6 * (m + 1) + 1 + m * (6 * m + 1) ≡ at + pieceBytes (w .0) = rw (left .size) (omega arith) in
+        let reached : at + fieldBytes * (m + 1) + 1 + m * lineBytes m ≡ at + pieceBytes (w .0) = rw (left .size) (omega arith) in
         came-go (readPiece text n at) _ (w .0) (sized ∙ w .1)
         (record {
           held = rw (← left .size, left .vertices-put, left .lengths-put) (held-more qs (w .0) s v l held (left .shape) d count room);

@@ -1,7 +1,7 @@
 -- Reading front to back, one step more: what a loop over fields, rows or pieces needs.
 --   after after-after                 what is read behind what is in hand
 --   value-same bind-value require-value   a value that was read, taken apart
---   field-in fields-in                a field, and a line's fields, lie in the text
+--   Inside field-inside field-in fields-in   a field, and a line's fields, lie in the text
 --   fields-turn fields-stop           one field more
 --   line-go line-stop line-open       a line from its fields
 --   judged                            a line that is judged when it is read
@@ -20,7 +20,7 @@ use native.Mathlib.Numerals.{add-one}
 use Rattle.basics.specs.Tests.{Truth, holds, fails, truth}
 use Rattle.definitions.specs.Network.{Piece}
 use Rattle.definitions.specs.Judgement.{judgeSize, judgeVertices, judgeRow, judgeBlocks}
-use Rattle.definitions.specs.Text.{require, readRows, readPiece, pieceBytes, readPieces, fieldBytes, aField, noField, fieldAt, Read, refused, value, _>>=_, readField, readFields, judgeLineEnd, readLine, lineBytes}
+use Rattle.definitions.specs.Text.{require, readRows, readPiece, pieceBytes, readPieces, lineEnd, fieldBytes, aField, noField, fieldAt, lengthAt, FieldReading, Read, refused, value, _>>=_, readField, readFields, judgeLineEnd, readLine, lineBytes}
 
 -- what is in hand, and then what is read
 unfoldable pub after : {A : Type 0} → List A → Read (List A) → Read (List A)
@@ -51,49 +51,58 @@ pub require-value : (k : ℕ) (u : Unit {0}) → require k ≡ value u → k ≡
 require-value zero u e = refl
 require-value (suc k) u e = let z : _≡_ {A = ℕ} 0 1 = cc in absurd (omega arith)
 
--- ---- fields
+-- ---- fields, read in one way or the other
 
-pub field-go : (text : List ℕ) (at x : ℕ) → fieldAt text at ≡ aField x → readField text at ≡ value x
+pub field-go : (field : FieldReading) (text : List ℕ) (at x : ℕ) → field text at ≡ aField x → readField field text at ≡ value x
 unfolding readField
-field-go text at x e = rw e
+field-go field text at x e = rw e
 
-pub field-stop : (text : List ℕ) (at : ℕ) → fieldAt text at ≡ noField → readField text at ≡ refused 3
+pub field-stop : (field : FieldReading) (text : List ℕ) (at : ℕ) → field text at ≡ noField → readField field text at ≡ refused 3
 unfolding readField
-field-stop text at e = rw e
+field-stop field text at e = rw e
 
--- a field lies in the text
-pub field-in : (text : List ℕ) (at x : ℕ) → readField text at ≡ value x → at + 6 ≤ length text
-unfolding readField fieldAt
-field-in text at x e = go (truth (leb (at + 6) (length text)))
+-- a reading whose fields lie in the text
+abbrev pub Inside : FieldReading → Type 0
+Inside field = (text : List ℕ) (at : ℕ) → (field text at) .number ≡ 0 → at + fieldBytes ≤ length text
+
+pub field-inside : Inside fieldAt
+unfolding fieldAt
+field-inside text at e = go (truth (leb (at + fieldBytes) (length text)))
   where
-    go : Truth (leb (at + 6) (length text)) → at + 6 ≤ length text
-    go (holds t) = leb-true (at + 6) (length text) t
-    go (fails t) = let bad : refused 3 ≡ value x = simp t at e in let z : _≡_ {A = ℕ} 0 1 = cc in absurd (omega arith)
+    go : Truth (leb (at + fieldBytes) (length text)) → at + fieldBytes ≤ length text
+    go (holds t) = leb-true (at + fieldBytes) (length text) t
+    go (fails t) = let bad : _≡_ {A = ℕ} 3 0 = simp t at e in absurd (omega arith)
 
-fields-go : (text : List ℕ) (at k x : ℕ) → fieldAt text at ≡ aField x → readFields text at (suc k) ≡ after (x ∷ []) (readFields text (at + fieldBytes) k)
+pub field-in : (field : FieldReading) → Inside field → (text : List ℕ) (at x : ℕ) → readField field text at ≡ value x → at + fieldBytes ≤ length text
+unfolding readField
+field-in field inside text at x e =
+    let number = bind-value (require ((field text at) .number)) _ x e in
+    inside text at (require-value ((field text at) .number) (number .0) (number .1))
+
+fields-go : (field : FieldReading) (text : List ℕ) (at k x : ℕ) → field text at ≡ aField x → readFields field text at (suc k) ≡ after (x ∷ []) (readFields field text (at + fieldBytes) k)
 unfolding readFields after
-fields-go text at k x e = rw (field-go text at x e)
+fields-go field text at k x e = rw (field-go field text at x e)
 
-pub fields-stop : (text : List ℕ) (at k : ℕ) → fieldAt text at ≡ noField → readFields text at (suc k) ≡ refused 3
+pub fields-stop : (field : FieldReading) (text : List ℕ) (at k : ℕ) → field text at ≡ noField → readFields field text at (suc k) ≡ refused 3
 unfolding readFields
-fields-stop text at k e = rw (field-stop text at e)
+fields-stop field text at k e = rw (field-stop field text at e)
 
 -- what a loop has read, with one field more
-pub fields-turn : (text : List ℕ) (at k i place x : ℕ) (out : List ℕ) → i < k → length out ≡ k → fieldAt text place ≡ aField x
-    → readFields text at k ≡ after (take i out) (readFields text place (k - i))
-    → readFields text at k ≡ after (take (i + 1) (set out i x)) (readFields text (place + 6) (k - (i + 1)))
-fields-turn text at k i place x out h l e q =
+pub fields-turn : (field : FieldReading) (text : List ℕ) (at k i place x : ℕ) (out : List ℕ) → i < k → length out ≡ k → field text place ≡ aField x
+    → readFields field text at k ≡ after (take i out) (readFields field text place (k - i))
+    → readFields field text at k ≡ after (take (i + 1) (set out i x)) (readFields field text (place + fieldBytes) (k - (i + 1)))
+fields-turn field text at k i place x out h l e q =
     let z : k - i ≡ suc (k - (i + 1)) = (omega arith) in
     let b : i < length out = (omega arith) in
-    q ∙ rw (z, fields-go text place (k - (i + 1)) x e, after-after, add-one i, take-suc-set out i x b)
+    q ∙ rw (z, fields-go field text place (k - (i + 1)) x e, after-after, add-one i, take-suc-set out i x b)
 
-pub fields-in : (text : List ℕ) (at k : ℕ) (xs : List ℕ) → readFields text at k ≡ value xs → at ≤ length text → at + 6 * k ≤ length text
+pub fields-in : (field : FieldReading) → Inside field → (text : List ℕ) (at k : ℕ) (xs : List ℕ) → readFields field text at k ≡ value xs → at ≤ length text → at + fieldBytes * k ≤ length text
 unfolding readFields
-fields-in text at zero xs e h = omega arith
-fields-in text at (suc k) xs e h =
-    let first = bind-value (readField text at) _ xs e in
-    let rest = bind-value (readFields text (at + 6) k) _ xs (first .2) in
-    omega (arith, fields-in text (at + 6) k (rest .0) (rest .1) (field-in text at (first .0) (first .1)))
+fields-in field inside text at zero xs e h = omega arith
+fields-in field inside text at (suc k) xs e h =
+    let first = bind-value (readField field text at) _ xs e in
+    let rest = bind-value (readFields field text (at + fieldBytes) k) _ xs (first .2) in
+    omega (arith, fields-in field inside text (at + fieldBytes) k (rest .0) (rest .1) (field-in field inside text at (first .0) (first .1)))
 
 -- ---- a cause
 
@@ -103,17 +112,18 @@ require-stop (suc k) h = refl
 
 -- ---- a line
 
-pub line-go : (text : List ℕ) (at k : ℕ) (xs : List ℕ) → readFields text at k ≡ value xs → getD text (at + fieldBytes * k) 0 ≡ 10 → readLine text at k ≡ value xs
-unfolding readLine judgeLineEnd
-line-go text at k xs e t = rw (e, eq-eqb _ _ t)
+module _ (field : FieldReading) (text : List ℕ) (at k : ℕ) where
+  pub line-go : (xs : List ℕ) → readFields field text at k ≡ value xs → getD text (at + fieldBytes * k) 0 ≡ lineEnd → readLine field text at k ≡ value xs
+  unfolding readLine judgeLineEnd
+  line-go xs e t = rw (e, eq-eqb _ _ t)
 
-pub line-stop : (text : List ℕ) (at k j : ℕ) → readFields text at k ≡ refused j → readLine text at k ≡ refused j
-unfolding readLine
-line-stop text at k j e = rw e
+  pub line-stop : (j : ℕ) → readFields field text at k ≡ refused j → readLine field text at k ≡ refused j
+  unfolding readLine
+  line-stop j e = rw e
 
-pub line-open : (text : List ℕ) (at k : ℕ) (xs : List ℕ) → readFields text at k ≡ value xs → getD text (at + fieldBytes * k) 0 ≢ 10 → readLine text at k ≡ refused 3
-unfolding readLine judgeLineEnd
-line-open text at k xs e t = rw (e, ne-eqb _ _ t)
+  pub line-open : (xs : List ℕ) → readFields field text at k ≡ value xs → getD text (at + fieldBytes * k) 0 ≢ lineEnd → readLine field text at k ≡ refused 3
+  unfolding readLine judgeLineEnd
+  line-open xs e t = rw (e, ne-eqb _ _ t)
 
 -- what is read, judged
 unfoldable pub judged : {A : Type 0} → (A → ℕ) → Read A → Read A
@@ -147,14 +157,14 @@ judged-bind {A} {B} cause (value a) f = go (require (cause a))
 -- ---- rows
 
 module _ (text : List ℕ) (at m i k : ℕ) where
-  rows-by : readRows text at m i (suc k) ≡ _>>=_ (judged (judgeRow i) (readLine text at m)) (λ row. after (row ∷ []) (readRows text (at + lineBytes m) m (suc i) k))
+  rows-by : readRows text at m i (suc k) ≡ _>>=_ (judged (judgeRow i) (readLine lengthAt text at m)) (λ row. after (row ∷ []) (readRows text (at + lineBytes m) m (suc i) k))
   unfolding readRows after
-  rows-by = judged-bind (judgeRow i) (readLine text at m) (λ row. after (row ∷ []) (readRows text (at + lineBytes m) m (suc i) k))
+  rows-by = judged-bind (judgeRow i) (readLine lengthAt text at m) (λ row. after (row ∷ []) (readRows text (at + lineBytes m) m (suc i) k))
 
-  pub rows-go : (row : List ℕ) → judged (judgeRow i) (readLine text at m) ≡ value row → readRows text at m i (suc k) ≡ after (row ∷ []) (readRows text (at + lineBytes m) m (suc i) k)
+  pub rows-go : (row : List ℕ) → judged (judgeRow i) (readLine lengthAt text at m) ≡ value row → readRows text at m i (suc k) ≡ after (row ∷ []) (readRows text (at + lineBytes m) m (suc i) k)
   rows-go row e = rows-by ∙ rw e
 
-  pub rows-stop : (j : ℕ) → judged (judgeRow i) (readLine text at m) ≡ refused j → readRows text at m i (suc k) ≡ refused j
+  pub rows-stop : (j : ℕ) → judged (judgeRow i) (readLine lengthAt text at m) ≡ refused j → readRows text at m i (suc k) ≡ refused j
   rows-stop j e = rows-by ∙ rw e
 
 -- ---- a piece
@@ -166,21 +176,21 @@ pieceOf vertices rows = record { vertices = vertices; rows = rows }
 -- the rest of a piece, whose size is m
 unfoldable pub readSized : List ℕ → ℕ → ℕ → ℕ → Read Piece
 readSized text n at m = do
-  vertices ← readLine text (at + fieldBytes) m
+  vertices ← readLine fieldAt text (at + fieldBytes) m
   _ ← require (judgeVertices n vertices)
   rows ← readRows text (at + lineBytes (suc m)) m 0 m
   _ ← require (judgeBlocks (pieceOf vertices rows))
   value (pieceOf vertices rows)
 
 module _ (text : List ℕ) (n at : ℕ) where
-  piece-by : readPiece text n at ≡ _>>=_ (judged judgeSize (readField text at)) (readSized text n at)
+  piece-by : readPiece text n at ≡ _>>=_ (judged judgeSize (readField fieldAt text at)) (readSized text n at)
   unfolding readPiece readSized
-  piece-by = judged-bind judgeSize (readField text at) (readSized text n at)
+  piece-by = judged-bind judgeSize (readField fieldAt text at) (readSized text n at)
 
-  pub piece-stop : (k : ℕ) → judged judgeSize (readField text at) ≡ refused k → readPiece text n at ≡ refused k
+  pub piece-stop : (k : ℕ) → judged judgeSize (readField fieldAt text at) ≡ refused k → readPiece text n at ≡ refused k
   piece-stop k e = piece-by ∙ rw e
 
-  pub piece-go : (m : ℕ) → judged judgeSize (readField text at) ≡ value m → readPiece text n at ≡ readSized text n at m
+  pub piece-go : (m : ℕ) → judged judgeSize (readField fieldAt text at) ≡ value m → readPiece text n at ≡ readSized text n at m
   piece-go m e = piece-by ∙ rw e
 
 module _ (text : List ℕ) (n at m : ℕ) where
@@ -191,14 +201,14 @@ module _ (text : List ℕ) (n at m : ℕ) where
     _ ← require (judgeBlocks (pieceOf vertices rows))
     value (pieceOf vertices rows)
 
-  vertices-by : readSized text n at m ≡ _>>=_ (judged (judgeVertices n) (readLine text (at + fieldBytes) m)) rest-rows
+  vertices-by : readSized text n at m ≡ _>>=_ (judged (judgeVertices n) (readLine fieldAt text (at + fieldBytes) m)) rest-rows
   unfolding readSized rest-rows
-  vertices-by = judged-bind (judgeVertices n) (readLine text (at + fieldBytes) m) rest-rows
+  vertices-by = judged-bind (judgeVertices n) (readLine fieldAt text (at + fieldBytes) m) rest-rows
 
-  pub vertices-stop : (k : ℕ) → judged (judgeVertices n) (readLine text (at + fieldBytes) m) ≡ refused k → readSized text n at m ≡ refused k
+  pub vertices-stop : (k : ℕ) → judged (judgeVertices n) (readLine fieldAt text (at + fieldBytes) m) ≡ refused k → readSized text n at m ≡ refused k
   vertices-stop k e = vertices-by ∙ rw e
 
-  module _ (vertices : List ℕ) (listed : judged (judgeVertices n) (readLine text (at + fieldBytes) m) ≡ value vertices) where
+  module _ (vertices : List ℕ) (listed : judged (judgeVertices n) (readLine fieldAt text (at + fieldBytes) m) ≡ value vertices) where
     table-by : readSized text n at m ≡ _>>=_ (judged (λ rows. judgeBlocks (pieceOf vertices rows)) (readRows text (at + lineBytes (suc m)) m 0 m)) (λ rows. value (pieceOf vertices rows))
     unfolding rest-rows
     table-by = vertices-by ∙ rw listed (judged-bind (λ rows. judgeBlocks (pieceOf vertices rows)) (readRows text (at + lineBytes (suc m)) m 0 m) (λ rows. value (pieceOf vertices rows)))

@@ -15,10 +15,10 @@ use lib.Seq.{take-at, drop-at}
 use Rattle.basics.specs.Tests.{Order, less, more, order, Truth, holds, fails, truth}
 use Rattle.basics.specs.Buffers.{flatMap-snoc, put, put-padded}
 use Rattle.basics.specs.Lists.{every-snoc, length-padded}
-use Rattle.definitions.specs.Limits.{rowPlaces, tablePlaces}
+use Rattle.definitions.specs.Limits.{maxSize, rowPlaces, tablePlaces}
 use Rattle.definitions.specs.Lists.{padded, upFrom, Every}
 use Rattle.definitions.specs.Judgement.{judgeRow}
-use Rattle.definitions.specs.Text.{Read, refused, value, _>>=_, require, readFields, judgeLineEnd, readLine, lineBytes, readRows}
+use Rattle.definitions.specs.Text.{lineEnd, fieldBytes, lengthAt, FieldReading, Read, refused, value, _>>=_, require, readFields, judgeLineEnd, readLine, lineBytes, readRows}
 use Rattle.text.specs.Outcomes.{Came, RowsLeft}
 use Rattle.text.specs.Reading.{after, after-after, after-none, judged, rows-go, rows-stop}
 use Rattle.text.specs.Buffers.{padded-inner}
@@ -26,28 +26,28 @@ use Rattle.text.specs.Steps.{came-out, came-go}
 
 -- ---- a line lies in the text
 
-fields-of : (text : List ℕ) (at k : ℕ) (xs : List ℕ) → readLine text at k ≡ value xs → readFields text at k ≡ value xs
+fields-of : (field : FieldReading) (text : List ℕ) (at k : ℕ) (xs : List ℕ) → readLine field text at k ≡ value xs → readFields field text at k ≡ value xs
 unfolding readLine
-fields-of text at k xs e = go (readFields text at k) refl e
+fields-of field text at k xs e = go (readFields field text at k) refl e
   where
     end : (r : Read (Unit {0})) (ys : List ℕ) → _>>=_ r (λ _. value ys) ≡ value xs → value ys ≡ value xs
     end (refused j) ys q = let z : _≡_ {A = ℕ} 0 1 = cc in absurd (omega arith)
     end (value u) ys q = q
 
-    go : (r : Read (List ℕ)) → readFields text at k ≡ r → _>>=_ r (λ ys. _>>=_ (require (judgeLineEnd text (at + 6 * k))) (λ _. value ys)) ≡ value xs → readFields text at k ≡ value xs
+    go : (r : Read (List ℕ)) → readFields field text at k ≡ r → _>>=_ r (λ ys. _>>=_ (require (judgeLineEnd text (at + fieldBytes * k))) (λ _. value ys)) ≡ value xs → readFields field text at k ≡ value xs
     go (refused j) p q = let z : _≡_ {A = ℕ} 0 1 = cc in absurd (omega arith)
-    go (value ys) p q = p ∙ end (require (judgeLineEnd text (at + 6 * k))) ys q
+    go (value ys) p q = p ∙ end (require (judgeLineEnd text (at + fieldBytes * k))) ys q
 
-pub line-ends : (text : List ℕ) (at k : ℕ) (xs : List ℕ) → readLine text at k ≡ value xs → at + 6 * k < length text
+pub line-ends : (field : FieldReading) (text : List ℕ) (at k : ℕ) (xs : List ℕ) → readLine field text at k ≡ value xs → at + fieldBytes * k < length text
 unfolding readLine judgeLineEnd
-line-ends text at k xs e = go (truth (eqb (getD text (at + 6 * k) 0) 10)) (order (at + 6 * k) (length text))
+line-ends field text at k xs e = go (truth (eqb (getD text (at + fieldBytes * k) 0) lineEnd)) (order (at + fieldBytes * k) (length text))
   where
-    f : readFields text at k ≡ value xs
-    f = fields-of text at k xs e
+    f : readFields field text at k ≡ value xs
+    f = fields-of field text at k xs e
 
-    go : Truth (eqb (getD text (at + 6 * k) 0) 10) → Order (at + 6 * k) (length text) → at + 6 * k < length text
+    go : Truth (eqb (getD text (at + fieldBytes * k) 0) lineEnd) → Order (at + fieldBytes * k) (length text) → at + fieldBytes * k < length text
     go t (less _ l) = l
-    go (holds t) (more _ l) = absurd (omega (arith, eqb-true (getD text (at + 6 * k) 0) 10 t, List·getD-eq-default text 0 {n = at + 6 * k} l))
+    go (holds t) (more _ l) = absurd (omega (arith, eqb-true (getD text (at + fieldBytes * k) 0) lineEnd t, List·getD-eq-default text 0 {n = at + fieldBytes * k} l))
     go (fails t) (more _ l) = let bad : refused 3 ≡ value xs = simp (f, t) at e in let z : _≡_ {A = ℕ} 0 1 = cc in absurd (omega arith)
 
 judged-value : (cause : List ℕ → ℕ) (r : Read (List ℕ)) (xs : List ℕ) → judged cause r ≡ value xs → r ≡ value xs
@@ -60,8 +60,8 @@ judged-value cause (value ys) xs e = go (require (cause ys)) e
     go (value u) p = p
 
 -- the next line begins in the text, or at its end
-pub line-end-in : (cause : List ℕ → ℕ) (text : List ℕ) (at k : ℕ) (xs : List ℕ) → judged cause (readLine text at k) ≡ value xs → at + (6 * k + 1) ≤ length text
-line-end-in cause text at k xs e = omega (arith, line-ends text at k xs (judged-value cause (readLine text at k) xs e))
+pub line-end-in : (field : FieldReading) (cause : List ℕ → ℕ) (text : List ℕ) (at k : ℕ) (xs : List ℕ) → judged cause (readLine field text at k) ≡ value xs → at + lineBytes k ≤ length text
+line-end-in field cause text at k xs e = omega (arith, line-ends field text at k xs (judged-value cause (readLine field text at k) xs e))
 
 -- ---- the loop
 
@@ -92,13 +92,12 @@ rows-begun text at m table e h =
       inside = h;
     }
 
-module _ (text : List ℕ) (at m i place : ℕ) (table : List ℕ) (g : RowsGoing text at m i place table) (small : m ≤ 24) (more-left : i < m) where
-  pub rows-turn : (c k : ℕ) (part : List ℕ) → k ≡ m → Came (judged (judgeRow i) (readLine text place k)) c (λ xs. part ≡ xs) → c ≡ 0 → length part ≡ m
-      → RowsGoing text at m (i + 1) (place + (6 * m + 1)) (put table (rowPlaces * i) part)
-  unfolding lineBytes
+module _ (text : List ℕ) (at m i place : ℕ) (table : List ℕ) (g : RowsGoing text at m i place table) (small : m ≤ maxSize) (more-left : i < m) where
+  pub rows-turn : (c k : ℕ) (part : List ℕ) → k ≡ m → Came (judged (judgeRow i) (readLine lengthAt text place k)) c (λ xs. part ≡ xs) → c ≡ 0 → length part ≡ m
+      → RowsGoing text at m (i + 1) (place + lineBytes m) (put table (rowPlaces * i) part)
   rows-turn c n part same came z long =
       let d = (rw same at came) .done z in
-      let e : judged (judgeRow i) (readLine text place m) ≡ value part = d .1 ∙ ap value (sym (d .2)) in
+      let e : judged (judgeRow i) (readLine lengthAt text place m) ≡ value part = d .1 ∙ ap value (sym (d .2)) in
       let k : m - i ≡ suc (m - (i + 1)) = (omega arith) in
       let fit : length part ≤ rowPlaces = (omega arith) in
       let y = put-padded tablePlaces (flatMap (padded rowPlaces 0) (g .rows)) part (rowPlaces * i) (g .filled) (omega arith) in
@@ -111,10 +110,10 @@ module _ (text : List ℕ) (at m i place : ℕ) (table : List ℕ) (g : RowsGoin
         so-far = g .so-far ∙ rw (k, rows-go text place m i (m - (i + 1)) part e, after-after, add-one i);
         held = rw (g .held, y) (sym (rw flatMap-snoc x));
         reached = omega (arith, g .reached);
-        inside = line-end-in (judgeRow i) text place m part e;
+        inside = line-end-in lengthAt (judgeRow i) text place m part e;
       }
 
-  pub rows-broken : (c k : ℕ) (part left : List ℕ) → k ≡ m → Came (judged (judgeRow i) (readLine text place k)) c (λ xs. part ≡ xs) → c ≢ 0 → Came (readRows text at m 0 m) c (RowsLeft text at m left)
+  pub rows-broken : (c k : ℕ) (part left : List ℕ) → k ≡ m → Came (judged (judgeRow i) (readLine lengthAt text place k)) c (λ xs. part ≡ xs) → c ≢ 0 → Came (readRows text at m 0 m) c (RowsLeft text at m left)
   unfolding after
   rows-broken c j part left same came n =
       let k : m - i ≡ suc (m - (i + 1)) = (omega arith) in

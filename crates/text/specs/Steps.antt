@@ -10,9 +10,9 @@ use Prim.Native.Nat.{ℕ, suc, _+_, _-_, _*_, _≤_, _<_}
 use native.Mathlib.Omega.{arith}
 use lib.ListN.{getD, length, take, List·getD-eq-default}
 use lib.Seq.{take-all}
-use Rattle.definitions.specs.Text.{noField, fieldAt, Read, refused, value, readFields, readLine}
+use Rattle.definitions.specs.Text.{lineEnd, fieldBytes, noField, FieldReading, Read, refused, value, readFields, readLine}
 use Rattle.text.specs.Outcomes.{Came}
-use Rattle.text.specs.Reading.{judged, judged-go, judged-out, judged-stop, after, fields-stop, fields-in, line-go, line-stop, line-open}
+use Rattle.text.specs.Reading.{judged, judged-go, judged-out, judged-stop, after, Inside, fields-stop, fields-in, line-go, line-stop, line-open}
 
 module _ {A : Type 0} (read : Read A) (Shows : A → Type 0) where
   pub came-out : (k : ℕ) → k ≢ 0 → read ≡ refused k → Came read k Shows
@@ -21,40 +21,40 @@ module _ {A : Type 0} (read : Read A) (Shows : A → Type 0) where
   pub came-go : (a : A) → read ≡ value a → Shows a → Came read 0 Shows
   came-go a e s = record { done = λ _. (a, e, s); stopped = λ n. absurd (n refl) }
 
-module _ (text : List ℕ) (at k i place : ℕ) (out : List ℕ) (so-far : readFields text at k ≡ after (take i out) (readFields text place (k - i))) where
-  pub fields-broken : i < k → fieldAt text place ≡ noField → Came (readFields text at k) 3 (λ xs. out ≡ xs)
+module _ (field : FieldReading) (text : List ℕ) (at k i place : ℕ) (out : List ℕ) (so-far : readFields field text at k ≡ after (take i out) (readFields field text place (k - i))) where
+  pub fields-broken : i < k → field text place ≡ noField → Came (readFields field text at k) 3 (λ xs. out ≡ xs)
   unfolding after
   fields-broken h e =
       let z : k - i ≡ suc (k - (i + 1)) = (omega arith) in
       let three : _≢_ {A = ℕ} 3 0 = λ w. omega arith in
-      came-out (readFields text at k) (λ xs. out ≡ xs) 3 three (so-far ∙ rw (z, fields-stop text place (k - (i + 1)) e))
+      came-out (readFields field text at k) (λ xs. out ≡ xs) 3 three (so-far ∙ rw (z, fields-stop field text place (k - (i + 1)) e))
 
-  pub fields-ended : i ≡ k → length out ≡ k → Came (readFields text at k) 0 (λ xs. out ≡ xs)
+  pub fields-ended : i ≡ k → length out ≡ k → Came (readFields field text at k) 0 (λ xs. out ≡ xs)
   unfolding after readFields
   fields-ended h l =
       let z : k - i ≡ 0 = (omega arith) in
       let t : take i out ≡ out = take-all i out (omega arith) in
-      came-go (readFields text at k) (λ xs. out ≡ xs) out (so-far ∙ rw (z, t, append-nil)) refl
+      came-go (readFields field text at k) (λ xs. out ≡ xs) out (so-far ∙ rw (z, t, append-nil)) refl
 
-module _ (text : List ℕ) (at k c : ℕ) (out : List ℕ) (came : Came (readFields text at k) c (λ xs. out ≡ xs)) where
-  pub line-refused : c ≢ 0 → Came (readLine text at k) c (λ xs. out ≡ xs)
-  line-refused h = came-out (readLine text at k) (λ xs. out ≡ xs) c h (line-stop text at k c (came .stopped h))
+module _ (field : FieldReading) (text : List ℕ) (at k c : ℕ) (out : List ℕ) (came : Came (readFields field text at k) c (λ xs. out ≡ xs)) where
+  pub line-refused : c ≢ 0 → Came (readLine field text at k) c (λ xs. out ≡ xs)
+  line-refused h = came-out (readLine field text at k) (λ xs. out ≡ xs) c h (line-stop field text at k c (came .stopped h))
 
   module _ (ok : c ≡ 0) where
-    read : readFields text at k ≡ value out
+    read : readFields field text at k ≡ value out
     read = let d = came .done ok in d .1 ∙ ap value (sym (d .2))
 
-    pub line-in : at ≤ length text → at + 6 * k ≤ length text
-    line-in h = fields-in text at k out read h
+    pub line-in : Inside field → at ≤ length text → at + fieldBytes * k ≤ length text
+    line-in inside h = fields-in field inside text at k out read h
 
-    pub line-other : getD text (at + 6 * k) 0 ≢ 10 → Came (readLine text at k) 3 (λ xs. out ≡ xs)
-    line-other h = let three : _≢_ {A = ℕ} 3 0 = λ w. omega arith in came-out (readLine text at k) (λ xs. out ≡ xs) 3 three (line-open text at k out read h)
+    pub line-other : getD text (at + fieldBytes * k) 0 ≢ lineEnd → Came (readLine field text at k) 3 (λ xs. out ≡ xs)
+    line-other h = let three : _≢_ {A = ℕ} 3 0 = λ w. omega arith in came-out (readLine field text at k) (λ xs. out ≡ xs) 3 three (line-open field text at k out read h)
 
-    pub line-short : length text ≤ at + 6 * k → Came (readLine text at k) 3 (λ xs. out ≡ xs)
-    line-short h = line-other (λ e. omega (arith, List·getD-eq-default text 0 {n = at + 6 * k} h))
+    pub line-short : length text ≤ at + fieldBytes * k → Came (readLine field text at k) 3 (λ xs. out ≡ xs)
+    line-short h = line-other (λ e. omega (arith, List·getD-eq-default text 0 {n = at + fieldBytes * k} h))
 
-    pub line-closed : getD text (at + 6 * k) 0 ≡ 10 → Came (readLine text at k) 0 (λ xs. out ≡ xs)
-    line-closed h = came-go (readLine text at k) (λ xs. out ≡ xs) out (line-go text at k out read h) refl
+    pub line-closed : getD text (at + fieldBytes * k) 0 ≡ lineEnd → Came (readLine field text at k) 0 (λ xs. out ≡ xs)
+    line-closed h = came-go (readLine field text at k) (λ xs. out ≡ xs) out (line-go field text at k out read h) refl
 
 -- ---- judged
 

@@ -8,7 +8,7 @@ ghost use lib.ListN.{length, replicate};
 ghost use Rattle.definitions.specs.Limits.{maxSize, sizePlaces, tablePlaces};
 ghost use Rattle.definitions.specs.Network.{Piece};
 ghost use Rattle.definitions.specs.Judgement.{judgeSize, judgeVertices, judgeRow};
-ghost use Rattle.definitions.specs.Text.{fieldBytes, readField, readFields, readLine, readRows, readPiece, readPieces, readBody, readPlan};
+ghost use Rattle.definitions.specs.Text.{fieldBytes, lineBytes, fieldAt, lengthAt, readField, readFields, readLine, readRows, readPiece, readPieces, readBody, readPlan};
 ghost use Rattle.definitions.specs.Entries.{readRefusal, reading};
 ghost use Rattle.text.specs.Outcomes.{Came, RowsLeft};
 ghost use Rattle.text.specs.Reading.{judged, readSized};
@@ -24,7 +24,7 @@ use definitions::ReadAnswer;
 // The fields of a line from `at` on, as many as `out` has places; 3 if one is not a field.
 fn read_fields(text: &[u8], at: usize, out: &mut [u32]) -> u32
     requires { ⌜ at ≤ length (now text) ⌝ }
-    ensures { λ r. ⌜ Came (readFields (now (text .entry)) at (length (now (out .entry)))) r (λ xs. now (out .exit) ≡ xs) ⌝ }
+    ensures { λ r. ⌜ Came (readFields fieldAt (now (text .entry)) at (length (now (out .entry)))) r (λ xs. now (out .exit) ≡ xs) ⌝ }
 {
     let mut i = 0;
     let mut place = at;
@@ -43,7 +43,7 @@ fn read_fields(text: &[u8], at: usize, out: &mut [u32]) -> u32
 // A line's layout: its fields, then one byte 10.
 fn read_line(text: &[u8], at: usize, out: &mut [u32]) -> u32
     requires { ⌜ at ≤ length (now text) ⌝ }
-    ensures { λ r. ⌜ Came (readLine (now (text .entry)) at (length (now (out .entry)))) r (λ xs. now (out .exit) ≡ xs) ⌝ }
+    ensures { λ r. ⌜ Came (readLine fieldAt (now (text .entry)) at (length (now (out .entry)))) r (λ xs. now (out .exit) ≡ xs) ⌝ }
 {
     let k = out.len();
     let cause = read_fields(text, at, out);
@@ -60,10 +60,18 @@ fn read_line(text: &[u8], at: usize, out: &mut [u32]) -> u32
     Cause::NONE
 }
 
+// A line of lengths: today each is a number, like any other field.
+fn read_lengths(text: &[u8], at: usize, out: &mut [u32]) -> u32
+    requires { ⌜ at ≤ length (now text) ⌝ }
+    ensures { λ r. ⌜ Came (readLine lengthAt (now (text .entry)) at (length (now (out .entry)))) r (λ xs. now (out .exit) ≡ xs) ⌝ }
+{
+    read_line(text, at, out)
+}
+
 // A line of vertices, then their judgement.
 fn read_vertices(text: &[u8], at: usize, n: u32, out: &mut [u32]) -> u32
     requires { ⌜ at ≤ length (now text) ⌝ }
-    ensures { λ r. ⌜ Came (judged (judgeVertices n) (readLine (now (text .entry)) at (length (now (out .entry))))) r (λ xs. now (out .exit) ≡ xs) ⌝ }
+    ensures { λ r. ⌜ Came (judged (judgeVertices n) (readLine fieldAt (now (text .entry)) at (length (now (out .entry))))) r (λ xs. now (out .exit) ≡ xs) ⌝ }
 {
     let cause = read_line(text, at, out);
     if cause != Cause::NONE {
@@ -75,9 +83,9 @@ fn read_vertices(text: &[u8], at: usize, n: u32, out: &mut [u32]) -> u32
 // Row i of a table, then its judgement.
 fn read_row(text: &[u8], at: usize, i: usize, out: &mut [u32]) -> u32
     requires { ⌜ at ≤ length (now text) ⌝ }
-    ensures { λ r. ⌜ Came (judged (judgeRow i) (readLine (now (text .entry)) at (length (now (out .entry))))) r (λ xs. now (out .exit) ≡ xs) ⌝ }
+    ensures { λ r. ⌜ Came (judged (judgeRow i) (readLine lengthAt (now (text .entry)) at (length (now (out .entry))))) r (λ xs. now (out .exit) ≡ xs) ⌝ }
 {
-    let cause = read_line(text, at, out);
+    let cause = read_lengths(text, at, out);
     if cause != Cause::NONE {
         return cause;
     }
@@ -91,7 +99,7 @@ struct Size {
 }
 
 fn read_size(text: &[u8], at: usize) -> Size
-    ensures { λ r. ⌜ Came (judged judgeSize (readField (now (text .entry)) at)) (r .number) (λ m. r .m ≡ m) ⌝ }
+    ensures { λ r. ⌜ Came (judged judgeSize (readField fieldAt (now (text .entry)) at)) (r .number) (λ m. r .m ≡ m) ⌝ }
 {
     let field = reader::field_at(text, at);
     let Field::Number(m) = field else {
@@ -106,7 +114,7 @@ fn read_size(text: &[u8], at: usize) -> Size
     }
 }
 
-// The rows of a table, each judged as it is read, into 24 rows of 24 places that are 0.
+// The rows of a table, each judged as it is read, into the places of one table, which are 0.
 fn read_rows(text: &[u8], at: usize, m: usize, table: &mut [u32]) -> u32
     requires { ⌜ (at ≤ length (now text)) × (m ≤ maxSize) × (now table ≡ replicate tablePlaces 0) ⌝ }
     ensures { λ r. ⌜ Came (readRows (now (text .entry)) at m 0 m) r (RowsLeft (now (text .entry)) at m (now (table .exit))) ⌝ }
@@ -296,7 +304,7 @@ fn read_body(
     vertices: &mut [u32],
     lengths: &mut [u32],
 ) -> ReadAnswer
-    requires { ⌜ (13 ≤ length (now text)) × Held [] (now sizes) (now vertices) (now lengths) ⌝ }
+    requires { ⌜ (lineBytes 2 ≤ length (now text)) × Held [] (now sizes) (now vertices) (now lengths) ⌝ }
     ensures { λ r. ⌜ PlanRead (readBody (now (text .entry)) n p) r (now (sizes .exit)) (now (vertices .exit)) (now (lengths .exit)) ⌝ }
 {
     let bounds = checks::judge_bounds(n, p);

@@ -31,12 +31,6 @@ slice-aggregate-write-listing c =
     let l = long (c .before) in
     sym (length-take-le _ _ (⊎-elim (λ w. omega arith) (λ w. omega arith) (c .before .before .if1 .came)))
 
-write-listing-requires : tie.Need-write-listing-requires
-write-listing-requires c κs = search needs
-
-same-length : tie.Need-same-length
-same-length c = search needs
-
 returns : tie.Need-returns
 returns c =
     let b = c .before .before .before .before .before in
@@ -46,4 +40,4 @@ returns c =
 
 pub list-input-spec : {M : Type 1} → statement M
 list-input-spec =
-    tie.close (tie.spec slice-aggregate-write-listing write-listing-requires same-length returns)
+    tie.close (tie.spec slice-aggregate-write-listing (search needs) (search needs) returns)

@@ -1,28 +1,29 @@
--- `answer::put_refusal` meets its contract: a number up to 8 is one digit.
+-- `answer::put_refusal` meets its contract: ten digits are room for any number.
+use native.Mathlib.Omega.{arith}
 use borrow.Author.Needs.{needs}
-use Rattle.answer.specs.Refusals.{refusal-digit}
+use Rattle.fields.specs.Writing.{decimal-few}
+use Rattle.answer.specs.Lines.{refusal-is}
+use Rattle.answer.specs.Output.{put-both}
 use Rattle.answer.proofs.put_refusal.Statement.{statement}
 use Rattle.answer.proofs.put_refusal.Tie as tie
 
-cast-t4 : tie.Need-cast-t4
-cast-t4 c = search needs
+put-number-requires : tie.Need-put-number-requires
+put-number-requires c κs =
+    let word = c .before .before .before in
+    omega (arith, word .put-bytes .ensures .behind, decimal-few (word .before .before .before .before .args .number))
 
-add-t5 : tie.Need-add-t5
-add-t5 c = search needs
-
-slice-aggregate-put-line : tie.Need-slice-aggregate-put-line
-slice-aggregate-put-line c = search needs
-
-put-line-requires : tie.Need-put-line-requires
-put-line-requires c κs = search needs
-
-same-length : tie.Need-same-length
-same-length c = search needs
+put-byte-requires : tie.Need-put-byte-requires
+put-byte-requires c κs =
+    let digits = c .before .before .before in
+    let word = digits .before .before .before .before in
+    omega (arith, word .put-bytes .ensures .behind, digits .put-number .ensures .behind, decimal-few (word .before .before .before .before .args .number))
 
 returns : tie.Need-returns
-returns c = rw (refusal-digit _ (c .before .before .before .before .before .before .pre .0)) (c .before .before .put-line .ensures)
+returns c =
+    let byte = c .before .before in
+    let digits = byte .before .before .before .before in
+    let word = digits .before .before .before .before in
+    rw (← refusal-is _) (put-both _ _ _ _ _ _ _ _ (put-both _ _ _ _ _ _ _ _ (word .put-bytes .ensures) (digits .put-number .ensures) (omega arith)) (byte .put-byte .ensures) (omega arith))
 
 pub put-refusal-spec : {M : Type 1} → statement M
-put-refusal-spec =
-    tie.close
-    (tie.spec cast-t4 add-t5 slice-aggregate-put-line put-line-requires same-length returns)
+put-refusal-spec = tie.close (tie.spec (search needs) (search needs) put-number-requires put-byte-requires (search needs) returns)

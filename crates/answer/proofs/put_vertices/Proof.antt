@@ -25,30 +25,6 @@ loop-holds c =
     let z : a .n + 1 - 1 ≡ a .n = omega arith in
     (search needs, search needs, search needs, search needs, rw z)
 
-cast-label : tie.Need-cast-label Inv-loop μ-loop
-cast-label c = search needs
-
-sub-label : tie.Need-sub-label Inv-loop μ-loop
-sub-label c = search needs
-
-mul-label : tie.Need-mul-label Inv-loop μ-loop
-mul-label c = search needs
-
-shared-slice-read-label : tie.Need-shared-slice-read-label Inv-loop μ-loop
-shared-slice-read-label c = search needs
-
-slice-aggregate-put-fields : tie.Need-slice-aggregate-put-fields Inv-loop μ-loop
-slice-aggregate-put-fields c = search needs
-
-put-fields-requires : tie.Need-put-fields-requires Inv-loop μ-loop
-put-fields-requires c κs = search needs
-
-add-v : tie.Need-add-v Inv-loop μ-loop
-add-v c = search needs
-
-loop-less : tie.Need-loop-less Inv-loop μ-loop
-loop-less c = search needs
-
 loop-again : tie.Need-loop-again Inv-loop μ-loop
 loop-again c =
     let l = c .before .before .before .before .before .before .before .loop in
@@ -56,9 +32,6 @@ loop-again c =
     let p = c .before .before .put-fields .ensures in
     let turn = vertices-turn (a .labels .now) (l .out) (l .place) (a .n) (l .v) _ _ (omega arith) (omega arith) p in
     (search needs, search needs, search needs, omega (arith, p .behind, length-line (l .v ∷ getD (a .labels .now) (l .v - 1) 0 ∷ [])), l .inv .4 ∙ turn)
-
-same-length : tie.Need-same-length Inv-loop μ-loop
-same-length c = search needs
 
 returns : tie.Need-returns Inv-loop μ-loop
 returns c =
@@ -72,19 +45,5 @@ returns c =
 
 pub put-vertices-spec : {M : Type 1} → statement M
 put-vertices-spec =
-    tie.close
-    (tie.spec
-    Inv-loop
-    μ-loop
-    loop-holds
-    cast-label
-    sub-label
-    mul-label
-    shared-slice-read-label
-    slice-aggregate-put-fields
-    put-fields-requires
-    add-v
-    loop-less
-    loop-again
-    same-length
-    returns)
+    tie.close (tie.spec Inv-loop μ-loop loop-holds (search needs) (search needs) (search needs) (search needs) (search needs) (search needs)
+    (search needs) (search needs) loop-again (search needs) returns)

@@ -2,7 +2,7 @@
 -- listing, line by line.
 use mathlib.Core.Path.{_≡_, refl, ap, _∙_}
 use mathlib.Core.List.{List}
-use Prim.Native.Nat.{ℕ, _+_, _≤_}
+use Prim.Native.Nat.{ℕ, _+_}
 use native.Mathlib.Omega.{arith}
 use borrow.Author.Needs.{needs}
 use Rattle.definitions.specs.Entries.{refusalLine, listing}
@@ -23,7 +23,7 @@ abbrev textOf : tie.After-read-text → List ℕ
 textOf c = entered c .before .before .before .args .text .now
 
 -- the reader's answer is not 0
-refusal : (c : tie.Then2) → let r = readOf (c .before) in (r .read-text .result .number ≤ 8) × (refusalLine (r .read-text .result .number) ≡ listing (textOf r))
+refusal : (c : tie.Then2) → let r = readOf (c .before) in refusalLine (r .read-text .result .number) ≡ listing (textOf r)
 refusal c =
     let r = readOf (c .before) .read-text in
     read-refused _ _ _ _ (r .result) (r .last .1 .0) (r .last .1 .1 .0) (r .last .1 .1 .1 .0) (r .ensures) sized (c .if2 .taken)
@@ -37,52 +37,13 @@ understood c =
 returns : tie.Need-returns
 returns c = untouched _ _ (c .if1 .taken)
 
-slice-aggregate-read-text : tie.Need-slice-aggregate-read-text
-slice-aggregate-read-text c = search needs
-
-slice-aggregate-read-text-2 : tie.Need-slice-aggregate-read-text-2
-slice-aggregate-read-text-2 c = search needs
-
-slice-aggregate-read-text-3 : tie.Need-slice-aggregate-read-text-3
-slice-aggregate-read-text-3 c = search needs
-
-read-text-requires : tie.Need-read-text-requires
-read-text-requires c κs = search needs
-
 put-refusal-requires : tie.Need-put-refusal-requires
-put-refusal-requires c κs = (refusal (c .before) .0, omega arith)
-
-same-length : tie.Need-same-length
-same-length c = search needs
+put-refusal-requires c κs = omega arith
 
 returns-2 : tie.Need-returns-2
 returns-2 c =
     let then2 = c .before .before .before .before in
-    finished _ _ (entered (readOf (then2 .before)) .if1 .left) _ _ _ (c .before .before .put-refusal .ensures) (refusal then2 .1)
-
-slice-aggregate-label-network : tie.Need-slice-aggregate-label-network
-slice-aggregate-label-network c = search needs
-
-slice-aggregate-label-network-2 : tie.Need-slice-aggregate-label-network-2
-slice-aggregate-label-network-2 c = search needs
-
-slice-aggregate-label-network-3 : tie.Need-slice-aggregate-label-network-3
-slice-aggregate-label-network-3 c = search needs
-
-slice-aggregate-label-network-4 : tie.Need-slice-aggregate-label-network-4
-slice-aggregate-label-network-4 c = search needs
-
-label-network-requires : tie.Need-label-network-requires
-label-network-requires c κs = search needs
-
-slice-aggregate-put-fields : tie.Need-slice-aggregate-put-fields
-slice-aggregate-put-fields c = search needs
-
-put-fields-requires : tie.Need-put-fields-requires
-put-fields-requires c κs = search needs
-
-slice-aggregate-put-vertices : tie.Need-slice-aggregate-put-vertices
-slice-aggregate-put-vertices c = search needs
+    finished _ _ (entered (readOf (then2 .before)) .if1 .left) _ _ _ (c .before .before .put-refusal .ensures) (refusal then2)
 
 put-vertices-requires : tie.Need-put-vertices-requires
 put-vertices-requires c κs =
@@ -90,9 +51,6 @@ put-vertices-requires c κs =
     let few = vertices-fit _ _ _ _ _ (understood else2) in
     let next = c .before .before .before .before .put-fields .ensures .behind ∙ ap (λ (k : ℕ). 0 + k) (length-line _) in
     (few, search needs, omega arith)
-
-same-length-2 : tie.Need-same-length-2
-same-length-2 c = search needs
 
 returns-3 : tie.Need-returns-3
 returns-3 c =
@@ -105,24 +63,6 @@ returns-3 c =
 
 pub write-listing-spec : {M : Type 1} → statement M
 write-listing-spec =
-    tie.close
-    (tie.spec
-    returns
-    slice-aggregate-read-text
-    slice-aggregate-read-text-2
-    slice-aggregate-read-text-3
-    read-text-requires
-    put-refusal-requires
-    same-length
-    returns-2
-    slice-aggregate-label-network
-    slice-aggregate-label-network-2
-    slice-aggregate-label-network-3
-    slice-aggregate-label-network-4
-    label-network-requires
-    slice-aggregate-put-fields
-    put-fields-requires
-    slice-aggregate-put-vertices
-    put-vertices-requires
-    same-length-2
-    returns-3)
+    tie.close (tie.spec returns (search needs) (search needs) (search needs) (search needs) put-refusal-requires (search needs) returns-2
+    (search needs) (search needs) (search needs) (search needs) (search needs) (search needs) (search needs) (search needs)
+    put-vertices-requires (search needs) returns-3)

@@ -18,7 +18,7 @@ use Rattle.definitions.specs.Lists.{total}
 use Rattle.definitions.specs.Model.{nobody, by}
 use Rattle.definitions.specs.Network.{Piece}
 use Rattle.definitions.specs.Blocks.{Block, noBlock, blocks}
-use Rattle.definitions.specs.Labelling.{BlockState, extraction, freshBlock, activateVertex, State, labelOf, chosen, advance, steps, start, columns, labelling, reached, extractions, insertions, labels}
+use Rattle.definitions.specs.Labelling.{BlockState, extraction, freshBlock, activateVertex, settledAt, State, labelOf, chosen, advance, steps, start, columns, labelling, reached, extractions, insertions, labels}
 use Rattle.definitions.specs.Entries.{labelAnswer}
 use Rattle.definitions.specs.declared.LabelAnswer.{LabelAnswer}
 use Rattle.basics.specs.Lists.{every-at, every-all}
@@ -211,12 +211,12 @@ module _ {s : Store} {source n : ℕ} {qs : List Piece} (mapped : Mapped (s .arr
       unfolding reached insertions
       turn-new rowLabels′ words′ tree′ m′ settles =
           let r = settles qs after vertex-given in
-          let e : steps (k + 1) (start bs source) ≡ record { blocks = map (activateVertex v z) after; settled = st .settled ++ record { vertex = v; label = z } ∷ [] }
+          let e : steps (k + 1) (start bs source) ≡ record { blocks = map (activateVertex v z) after; settled = st .settled ++ settledAt v z ∷ [] }
           = rw (t .vertex-is) at (next ∙ advance-new st i c z first (t .here) (rw (t .vertex-is) unsettled)) in
           record {
             running = rw e (r .kept);
             shows = ap (λ (xs : List ℕ). set xs (v - 1) z) (g .shows) ∙ sym (labels-set st (steps (k + 1) (start bs source)) v z unsettled (ap (λ (x : State). x .settled) e) (known .0) (known .1));
-            reached-is = rw e (omega (arith, g .reached-is, length-append (st .settled) (record { vertex = v; label = z } ∷ [])));
+            reached-is = rw e (omega (arith, g .reached-is, length-append (st .settled) (settledAt v z ∷ [])));
             extracted-is = one-more;
             inserted-is = rw e (sym (r .counted ∙ omega (arith, counted)));
           }

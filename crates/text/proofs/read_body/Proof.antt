@@ -7,14 +7,8 @@ use Rattle.text.specs.Plans.{body-bounds, body-pieces, body-question, bo
 use Rattle.text.proofs.read_body.Statement.{statement}
 use Rattle.text.proofs.read_body.Tie as tie
 
-in-bounds : (c : tie.Else1) → judgeBounds (c .before .before .before .before .before .before .args .n) (c .before .before .before .before .before .before .args .p) ≡ 0
+in-bounds : (c : tie.Else1) → let a = c .before .before .before .before .before .before .args in judgeBounds (a .n) (a .p) ≡ 0
 in-bounds c = sym (c .before .judge-bounds .ensures) ∙ c .if1 .left
-
-judge-bounds-requires : tie.Need-judge-bounds-requires
-judge-bounds-requires c κs = search needs
-
-refusal-requires : tie.Need-refusal-requires
-refusal-requires c κs = search needs
 
 returns : tie.Need-returns
 returns c = rw (c .refusal .ensures) (body-bounds _ _ _ _ _ _ _ (c .before .before .judge-bounds .ensures) (c .before .if1 .taken))
@@ -24,75 +18,36 @@ read-pieces-requires c κs =
     let s = c .before .before .before .before .before .before .before .before .before in
     (s .pre .0, bounds-in _ _ (in-bounds (c .before .before .before)) .1, s .pre .1)
 
-refusal-requires-2 : tie.Need-refusal-requires-2
-refusal-requires-2 c κs = search needs
+-- back from the test of what the pieces gave: to where they were read, and to where the bounds were accepted
+abbrev pieces-read : tie.After-slice-known6 → tie.After-read-pieces
+pieces-read c = c .before .before .before .before .before .before
 
-same-length : tie.Need-same-length
-same-length c = search needs
-
-same-length-2 : tie.Need-same-length-2
-same-length-2 c = search needs
-
-same-length-3 : tie.Need-same-length-3
-same-length-3 c = search needs
+abbrev accepted : tie.After-slice-known6 → tie.Else1
+accepted c = pieces-read c .before .before .before .before
 
 returns-2 : tie.Need-returns-2
 returns-2 c =
-    rw (c .refusal2 .ensures)
-    (body-pieces _ _ _ (in-bounds (c .before .before .before .before .before .before .before .before .before .before .before .before)) _ _ _ _ _ (c .before .before .before .before .before .before .before .before .read-pieces .ensures) _ _ _ (c .before .if2 .taken))
+    let r = c .before .before in
+    rw (c .refusal2 .ensures) (body-pieces _ _ _ (in-bounds (accepted r)) _ _ _ _ _ (pieces-read r .read-pieces .ensures) _ _ _ (c .before .if2 .taken))
 
 read-question-requires : tie.Need-read-question-requires
-read-question-requires c κs = c .before .before .before .before .before .before .before .read-pieces .ensures .done (c .if2 .left) .2 .inside
-
-refusal-requires-3 : tie.Need-refusal-requires-3
-refusal-requires-3 c κs = search needs
-
-same-length-4 : tie.Need-same-length-4
-same-length-4 c = search needs
-
-same-length-5 : tie.Need-same-length-5
-same-length-5 c = search needs
-
-same-length-6 : tie.Need-same-length-6
-same-length-6 c = search needs
+read-question-requires c κs = pieces-read (c .before) .read-pieces .ensures .done (c .if2 .left) .2 .inside
 
 returns-3 : tie.Need-returns-3
 returns-3 c =
+    let q = c .before .before in
+    let r = q .before .before in
     rw (c .refusal3 .ensures)
-    (body-question _ _ _ (in-bounds (c .before .before .before .before .before .before .before .before .before .before .before .before .before .before)) _ _ _ _ _ (c .before .before .before .before .before .before .before .before .before .before .read-pieces .ensures) (c .before .before .before .if2 .left) _ _ (c .before .before .read-question .ensures) _ _ _ (c .before .if3 .taken))
-
-same-length-7 : tie.Need-same-length-7
-same-length-7 c = search needs
-
-same-length-8 : tie.Need-same-length-8
-same-length-8 c = search needs
-
-same-length-9 : tie.Need-same-length-9
-same-length-9 c = search needs
+    (body-question _ _ _ (in-bounds (accepted r)) _ _ _ _ _ (pieces-read r .read-pieces .ensures) (q .before .if2 .left) _ _ (q .read-question .ensures) _ _ _ (c .before .if3 .taken))
 
 returns-4 : tie.Need-returns-4
-returns-4 c = body-done _ _ _ (in-bounds (c .before .before .before .before .before .before .before .before .before .before .before .before .before)) _ _ _ _ _ (c .before .before .before .before .before .before .before .before .before .read-pieces .ensures) (c .before .before .if2 .left) _ _ (c .before .read-question .ensures) (c .if3 .left)
+returns-4 c =
+    let q = c .before in
+    let r = q .before .before in
+    body-done _ _ _ (in-bounds (accepted r)) _ _ _ _ _ (pieces-read r .read-pieces .ensures) (q .before .if2 .left) _ _ (q .read-question .ensures) (c .if3 .left)
 
 pub read-body-spec : {M : Type 1} → statement M
 read-body-spec =
-    tie.close
-    (tie.spec
-    judge-bounds-requires
-    refusal-requires
-    returns
-    read-pieces-requires
-    refusal-requires-2
-    same-length
-    same-length-2
-    same-length-3
-    returns-2
-    read-question-requires
-    refusal-requires-3
-    same-length-4
-    same-length-5
-    same-length-6
-    returns-3
-    same-length-7
-    same-length-8
-    same-length-9
-    returns-4)
+    tie.close (tie.spec (search needs) (search needs) returns read-pieces-requires (search needs) (search needs) (search needs)
+    (search needs) returns-2 read-question-requires (search needs) (search needs) (search needs) (search needs) returns-3 (search needs)
+    (search needs) (search needs) returns-4)

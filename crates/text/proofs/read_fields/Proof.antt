@@ -4,15 +4,15 @@ use Prim.Native.Nat.{_≤_, _-_}
 use native.Mathlib.Omega.{arith}
 use borrow.Author.Needs.{needs}
 use lib.ListN.{length, take}
-use Rattle.definitions.specs.Text.{fieldAnswer, readFields}
-use Rattle.text.specs.Reading.{after, after-none, fields-turn, field-go, field-in}
+use Rattle.definitions.specs.Text.{FieldAnswer, fieldAt, fieldAnswer, readFields}
+use Rattle.text.specs.Reading.{after, after-none, fields-turn, field-inside}
 use Rattle.text.specs.Steps.{fields-broken, fields-ended}
 use Rattle.text.proofs.read_fields.Statement.{statement}
 use Rattle.text.proofs.read_fields.Tie as tie
 
 abbrev Inv-loop : tie.InvT-loop
 Inv-loop text at out₀ i₀ place₀ out i place =
-    (i ≤ length out₀) × (length out ≡ length out₀) × (place ≤ length text) × (readFields text at (length out₀) ≡ after (take i out) (readFields text place (length out₀ - i)))
+    (i ≤ length out₀) × (length out ≡ length out₀) × (place ≤ length text) × (readFields fieldAt text at (length out₀) ≡ after (take i out) (readFields fieldAt text place (length out₀ - i)))
 
 abbrev μ-loop : tie.MeasureT-loop
 μ-loop text at out₀ i₀ place₀ out i place = length out₀ - i
@@ -21,40 +21,16 @@ loop-holds : tie.Need-loop-holds Inv-loop μ-loop
 loop-holds c =
     let a = c .before .before .args in
     let z : length (a .out .now) - 0 ≡ length (a .out .now) = (omega arith) in
-    (search needs, search needs, search needs, rw z (sym (after-none (readFields (a .text .now) (a .at) (length (a .out .now))))))
-
-field-at-requires : tie.Need-field-at-requires Inv-loop μ-loop
-field-at-requires c κs = search needs
-
-enum-known-field : tie.Need-enum-known-field Inv-loop μ-loop
-enum-known-field c = search needs
+    (search needs, search needs, search needs, rw z (sym (after-none (readFields fieldAt (a .text .now) (a .at) (length (a .out .now))))))
 
 enum-told : tie.Need-enum-told Inv-loop μ-loop
 enum-told c = search needs
-
-same-length : tie.Need-same-length Inv-loop μ-loop
-same-length c = search needs
 
 returns : tie.Need-returns Inv-loop μ-loop
 returns c =
     let l = c .before .before .before .before .loop in
     let h = c .before .before .before .loop-test .taken in
-    fields-broken _ _ _ (l .i) (l .place) (l .out) (l .inv .3) (search needs) (sym (c .before .before .field-at .ensures) ∙ ap fieldAnswer (c .enum-told .given .1))
-
-mul-out : tie.Need-mul-out Inv-loop μ-loop
-mul-out c = search needs
-
-slice-write-out : tie.Need-slice-write-out Inv-loop μ-loop
-slice-write-out c = search needs
-
-add-place : tie.Need-add-place Inv-loop μ-loop
-add-place c = search needs
-
-add-i : tie.Need-add-i Inv-loop μ-loop
-add-i c = search needs
-
-loop-less : tie.Need-loop-less Inv-loop μ-loop
-loop-less c = search needs
+    fields-broken fieldAt _ _ _ (l .i) (l .place) (l .out) (l .inv .3) (search needs) (sym (c .before .before .field-at .ensures) ∙ ap fieldAnswer (c .enum-told .given .1))
 
 loop-again : tie.Need-loop-again Inv-loop μ-loop
 loop-again c =
@@ -62,34 +38,15 @@ loop-again c =
     let a = c .before .before .before .before .before .before .before .before .args in
     let x = c .before .field .given .0 .0 in
     let f = sym (c .before .before .before .field-at .ensures) ∙ ap fieldAnswer (c .before .field .given .1) in
-    let p = field-in (a .text .now) (l .place) x (field-go (a .text .now) (l .place) x f) in
-    (search needs, search needs, p, fields-turn (a .text .now) (a .at) (length (a .out .now)) (l .i) (l .place) x (l .out) (omega arith) (l .inv .1) f (l .inv .3))
-
-same-length-2 : tie.Need-same-length-2 Inv-loop μ-loop
-same-length-2 c = search needs
+    let p = field-inside (a .text .now) (l .place) (ap (λ (r : FieldAnswer). r .number) f) in
+    (search needs, search needs, p, fields-turn fieldAt (a .text .now) (a .at) (length (a .out .now)) (l .i) (l .place) x (l .out) (omega arith) (l .inv .1) f (l .inv .3))
 
 returns-2 : tie.Need-returns-2 Inv-loop μ-loop
 returns-2 c =
     let l = c .before .loop in
-    fields-ended _ _ _ (l .i) (l .place) (l .out) (l .inv .3) (omega arith) (l .inv .1)
+    fields-ended fieldAt _ _ _ (l .i) (l .place) (l .out) (l .inv .3) (omega arith) (l .inv .1)
 
 pub read-fields-spec : {M : Type 1} → statement M
 read-fields-spec =
-    tie.close
-    (tie.spec
-    Inv-loop
-    μ-loop
-    loop-holds
-    field-at-requires
-    enum-known-field
-    enum-told
-    same-length
-    returns
-    mul-out
-    slice-write-out
-    add-place
-    add-i
-    loop-less
-    loop-again
-    same-length-2
-    returns-2)
+    tie.close (tie.spec Inv-loop μ-loop loop-holds (search needs) (search needs) enum-told (search needs) returns (search needs)
+    (search needs) (search needs) (search needs) (search needs) loop-again (search needs) returns-2)

@@ -1,62 +1,34 @@
 -- `read_line`: the fields lie in the text, so that the place behind them can be compared with its end.
 use borrow.Author.Needs.{needs}
+use Rattle.text.specs.Reading.{field-inside}
 use Rattle.text.specs.Steps.{line-refused, line-in, line-short, line-other, line-closed}
 use Rattle.text.proofs.read_line.Statement.{statement}
 use Rattle.text.proofs.read_line.Tie as tie
 
-read-fields-requires : tie.Need-read-fields-requires
-read-fields-requires c κs = search needs
-
-same-length : tie.Need-same-length
-same-length c = search needs
-
 returns : tie.Need-returns
-returns c = line-refused _ _ _ _ _ (c .before .before .before .read-fields .ensures) (c .if1 .taken)
-
-mul-end : tie.Need-mul-end
-mul-end c = search needs
+returns c = line-refused _ _ _ _ _ _ (c .before .before .before .read-fields .ensures) (c .if1 .taken)
 
 add-end : tie.Need-add-end
 add-end c =
-    let a = c .before .before .before .before .before .before .before .args in
-    let f = c .before .before .before .read-fields in
-    let h = line-in _ _ _ _ _ (f .ensures) (c .if1 .left) (c .before .before .before .before .before .before .before .pre) in
+    let f = c .before .before .before in
+    let s = f .before .before .before .before in
+    let h = line-in _ _ _ _ _ _ (f .read-fields .ensures) (c .if1 .left) field-inside (s .pre) in
     search needs
 
-same-length-2 : tie.Need-same-length-2
-same-length-2 c = search needs
-
 returns-2 : tie.Need-returns-2
-returns-2 c = line-short _ _ _ _ _ (c .before .before .before .before .read-fields .ensures) (c .before .if1 .left) (c .if2 .taken)
-
-shared-slice-read-if3 : tie.Need-shared-slice-read-if3
-shared-slice-read-if3 c = search needs
-
-same-length-3 : tie.Need-same-length-3
-same-length-3 c = search needs
+returns-2 c = line-short _ _ _ _ _ _ (c .before .before .before .before .read-fields .ensures) (c .before .if1 .left) (c .if2 .taken)
 
 returns-3 : tie.Need-returns-3
-returns-3 c = line-other _ _ _ _ _ (c .before .before .before .before .before .before .read-fields .ensures) (c .before .before .before .if1 .left) (c .if3 .taken)
-
-same-length-4 : tie.Need-same-length-4
-same-length-4 c = search needs
+returns-3 c =
+    let i = c .before .before .before in
+    line-other _ _ _ _ _ _ (i .before .before .before .read-fields .ensures) (i .if1 .left) (c .if3 .taken)
 
 returns-4 : tie.Need-returns-4
-returns-4 c = line-closed _ _ _ _ _ (c .before .before .before .before .before .before .read-fields .ensures) (c .before .before .before .if1 .left) (c .if3 .left)
+returns-4 c =
+    let i = c .before .before .before in
+    line-closed _ _ _ _ _ _ (i .before .before .before .read-fields .ensures) (i .if1 .left) (c .if3 .left)
 
 pub read-line-spec : {M : Type 1} → statement M
 read-line-spec =
-    tie.close
-    (tie.spec
-    read-fields-requires
-    same-length
-    returns
-    mul-end
-    add-end
-    same-length-2
-    returns-2
-    shared-slice-read-if3
-    same-length-3
-    returns-3
-    same-length-4
-    returns-4)
+    tie.close (tie.spec (search needs) (search needs) returns (search needs) add-end (search needs) returns-2 (search needs) (search needs)
+    returns-3 (search needs) returns-4)

@@ -19,48 +19,31 @@ loop-holds c =
     let s = c .before .before .before .before in
     (search needs, refl, refl, refl, pieces-begun _ _ _ _ _ _ _ (s .pre .2) (s .pre .0))
 
+-- back from the test of what a piece gave: to where it was read, and to the loop's turn
+abbrev piece-read : tie.After-slice-known6 Inv-loop μ-loop → tie.After-read-piece Inv-loop μ-loop
+piece-read c = c .before .before .before .before .before .before
+
+abbrev turn : tie.After-slice-known6 Inv-loop μ-loop → tie.In-loop Inv-loop μ-loop
+turn c = piece-read c .before .before .before .before
+
 read-piece-requires : tie.Need-read-piece-requires Inv-loop μ-loop
 read-piece-requires c κs =
     let p = c .before .before .before .before .before .before .before .before .before .pre in
     let g = c .before .before .before .before .loop .inv .4 in
     (g .inside, omega arith, record { pieces = g .pieces; count = g .count; held = g .held })
 
-same-length : tie.Need-same-length Inv-loop μ-loop
-same-length c = search needs
-
-same-length-2 : tie.Need-same-length-2 Inv-loop μ-loop
-same-length-2 c = search needs
-
-same-length-3 : tie.Need-same-length-3 Inv-loop μ-loop
-same-length-3 c = search needs
-
 returns : tie.Need-returns Inv-loop μ-loop
 returns c =
-    let t = c .before .before .before .before .before .before .before .before .before .before .before in
+    let t = turn (c .before) in
     let g = t .before .loop .inv .4 in
-    pieces-broken _ _ _ _ _ _ _ _ _ g (t .loop-test .taken) _ _ _ (c .before .before .before .before .before .before .before .read-piece .ensures (g .pieces) (g .count) (g .held)) (c .if1 .taken)
-
-add-d : tie.Need-add-d Inv-loop μ-loop
-add-d c = search needs
-
-loop-less : tie.Need-loop-less Inv-loop μ-loop
-loop-less c = search needs
+    pieces-broken _ _ _ _ _ _ _ _ _ g (t .loop-test .taken) _ _ _ (piece-read (c .before) .read-piece .ensures (g .pieces) (g .count) (g .held)) (c .if1 .taken)
 
 loop-again : tie.Need-loop-again Inv-loop μ-loop
 loop-again c =
-    let t = c .before .before .before .before .before .before .before .before .before .before .before in
+    let t = turn (c .before) in
     let g = t .before .loop .inv .4 in
-    let r = c .before .before .before .before .before .before .before .read-piece in
+    let r = piece-read (c .before) .read-piece in
     (search needs, search needs, search needs, search needs, pieces-turn _ _ _ _ _ _ _ _ _ g (t .loop-test .taken) _ _ _ _ _ (r .ensures (g .pieces) (g .count) (g .held)) (c .if1 .left))
-
-same-length-4 : tie.Need-same-length-4 Inv-loop μ-loop
-same-length-4 c = search needs
-
-same-length-5 : tie.Need-same-length-5 Inv-loop μ-loop
-same-length-5 c = search needs
-
-same-length-6 : tie.Need-same-length-6 Inv-loop μ-loop
-same-length-6 c = search needs
 
 returns-2 : tie.Need-returns-2 Inv-loop μ-loop
 returns-2 c =
@@ -68,20 +51,5 @@ returns-2 c =
 
 pub read-pieces-spec : {M : Type 1} → statement M
 read-pieces-spec =
-    tie.close
-    (tie.spec
-    Inv-loop
-    μ-loop
-    loop-holds
-    read-piece-requires
-    same-length
-    same-length-2
-    same-length-3
-    returns
-    add-d
-    loop-less
-    loop-again
-    same-length-4
-    same-length-5
-    same-length-6
-    returns-2)
+    tie.close (tie.spec Inv-loop μ-loop loop-holds read-piece-requires (search needs) (search needs) (search needs) returns (search needs)
+    (search needs) loop-again (search needs) (search needs) (search needs) returns-2)

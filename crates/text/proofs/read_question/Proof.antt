@@ -4,56 +4,34 @@ use mathlib.Core.Logic.{_≢_}
 use Prim.Native.Nat.{_+_}
 use native.Mathlib.Omega.{arith}
 use lib.ListN.{length}
+use Rattle.definitions.specs.Text.{lineBytes}
 use Rattle.text.specs.Plans.{question-line, question-source, question-open, question-done}
 use borrow.Author.Needs.{needs}
 use Rattle.text.proofs.read_question.Statement.{statement}
 use Rattle.text.proofs.read_question.Tie as tie
 
-slice-aggregate-read-line : tie.Need-slice-aggregate-read-line
-slice-aggregate-read-line c = search needs
-
-read-line-requires : tie.Need-read-line-requires
-read-line-requires c κs = search needs
-
-array-read-source : tie.Need-array-read-source
-array-read-source c = search needs
-
 returns : tie.Need-returns
 returns c = question-line _ _ _ _ _ (c .before .before .read-line .ensures) _ refl (c .if1 .taken)
-
-judge-source-requires : tie.Need-judge-source-requires
-judge-source-requires c κs = search needs
 
 returns-2 : tie.Need-returns-2
 returns-2 c = question-source _ _ _ _ _ (c .before .before .before .before .read-line .ensures) _ refl (c .before .before .if1 .left) _ (c .before .judge-source .ensures) (c .if2 .taken)
 
-sub-if3 : tie.Need-sub-if3
-sub-if3 c = search needs
-
 returns-3 : tie.Need-returns-3
 returns-3 c =
-    let a = c .before .before .before .before .before .before .before .before .args in
-    let r = c .before .before .before .before .before .read-line in
-    let short : length (a .text .now) ≢ a .at + 7 = λ e. c .if3 .taken (omega arith) in
-    question-open _ _ _ _ _ (r .ensures) _ refl (c .before .before .before .if1 .left) _ (c .before .before .judge-source .ensures) (c .before .if2 .left) short
+    let i = c .before .before .before in
+    let r = i .before .before in
+    let a = r .before .before .before .args in
+    let short : length (a .text .now) ≢ a .at + lineBytes 1 = λ e. c .if3 .taken (omega arith) in
+    question-open _ _ _ _ _ (r .read-line .ensures) _ refl (i .if1 .left) _ (c .before .before .judge-source .ensures) (c .before .if2 .left) short
 
 returns-4 : tie.Need-returns-4
 returns-4 c =
-    let a = c .before .before .before .before .before .before .before .before .args in
-    let r = c .before .before .before .before .before .read-line in
-    let closed : length (a .text .now) ≡ a .at + 7 = omega arith in
-    question-done _ _ _ _ _ (r .ensures) _ refl (c .before .before .before .if1 .left) _ (c .before .before .judge-source .ensures) (c .before .if2 .left) closed
+    let i = c .before .before .before in
+    let r = i .before .before in
+    let a = r .before .before .before .args in
+    let closed : length (a .text .now) ≡ a .at + lineBytes 1 = omega arith in
+    question-done _ _ _ _ _ (r .read-line .ensures) _ refl (i .if1 .left) _ (c .before .before .judge-source .ensures) (c .before .if2 .left) closed
 
 pub read-question-spec : {M : Type 1} → statement M
 read-question-spec =
-    tie.close
-    (tie.spec
-    slice-aggregate-read-line
-    read-line-requires
-    array-read-source
-    returns
-    judge-source-requires
-    returns-2
-    sub-if3
-    returns-3
-    returns-4)
+    tie.close (tie.spec (search needs) (search needs) (search needs) returns (search needs) returns-2 (search needs) returns-3 returns-4)

@@ -4,25 +4,12 @@ use borrow.Author.Needs.{needs}
 use Rattle.text.proofs.read_row.Statement.{statement}
 use Rattle.text.proofs.read_row.Tie as tie
 
-read-line-requires : tie.Need-read-line-requires
-read-line-requires c κs = search needs
-
-same-length : tie.Need-same-length
-same-length c = search needs
-
 returns : tie.Need-returns
-returns c = judged-refused _ _ _ _ (c .before .before .before .read-line .ensures) (c .if1 .taken)
-
-judge-row-requires : tie.Need-judge-row-requires
-judge-row-requires c κs = search needs
-
-same-length-2 : tie.Need-same-length-2
-same-length-2 c = search needs
+returns c = judged-refused _ _ _ _ (c .before .before .before .read-lengths .ensures) (c .if1 .taken)
 
 returns-2 : tie.Need-returns-2
-returns-2 c = judged-then _ _ _ _ (c .before .before .before .before .before .read-line .ensures) (c .before .before .if1 .left) _ (c .judge-row .ensures)
+returns-2 c = judged-then _ _ _ _ (c .before .before .before .before .before .read-lengths .ensures) (c .before .before .if1 .left) _ (c .judge-row .ensures)
 
 pub read-row-spec : {M : Type 1} → statement M
 read-row-spec =
-    tie.close
-    (tie.spec read-line-requires same-length returns judge-row-requires same-length-2 returns-2)
+    tie.close (tie.spec (search needs) (search needs) returns (search needs) (search needs) returns-2)

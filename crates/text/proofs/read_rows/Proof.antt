@@ -5,7 +5,7 @@ use native.Mathlib.Omega.{arith}
 use borrow.Author.Needs.{needs}
 use lib.ListN.{length, length-replicate}
 use Rattle.text.specs.Buffers.{part-size, part-long, part-put, part-kept}
-use Rattle.definitions.specs.Limits.{tablePlaces}
+use Rattle.definitions.specs.Limits.{rowPlaces, tablePlaces}
 use Rattle.text.specs.Rows.{RowsGoing, rows-begun, rows-turn, rows-broken, rows-ended}
 use Rattle.text.proofs.read_rows.Statement.{statement}
 use Rattle.text.proofs.read_rows.Tie as tie
@@ -20,34 +20,13 @@ table-long : (s : tie.Start Inv-loop μ-loop) → length (s .args .table .now) �
 table-long s = ap length (s .pre .2) ∙ length-replicate {A = ℕ} tablePlaces 0
 
 -- row i lies in the table
-row-fits : (c : tie.In-loop Inv-loop μ-loop) → 24 * c .before .loop .i + c .before .before .before .before .args .m ≤ length (c .before .loop .table)
+row-fits : (c : tie.In-loop Inv-loop μ-loop) → rowPlaces * c .before .loop .i + c .before .before .before .before .args .m ≤ length (c .before .loop .table)
 row-fits c = omega (arith, c .loop-test .taken, c .before .before .before .before .pre .1, c .before .loop .inv .1)
 
 loop-holds : tie.Need-loop-holds Inv-loop μ-loop
 loop-holds c =
     let s = c .before .before in
     (search needs, table-long s, rows-begun _ _ _ _ (s .pre .2) (s .pre .0))
-
-mul-a : tie.Need-mul-a Inv-loop μ-loop
-mul-a c = search needs
-
-add-e : tie.Need-add-e Inv-loop μ-loop
-add-e c = search needs
-
-mul-read-row : tie.Need-mul-read-row Inv-loop μ-loop
-mul-read-row c = search needs
-
-sub-read-row : tie.Need-sub-read-row Inv-loop μ-loop
-sub-read-row c = search needs
-
-part-read-row-start : tie.Need-part-read-row-start Inv-loop μ-loop
-part-read-row-start c = search needs
-
-part-read-row-end : tie.Need-part-read-row-end Inv-loop μ-loop
-part-read-row-end c = search needs
-
-read-row-requires : tie.Need-read-row-requires Inv-loop μ-loop
-read-row-requires c κs = search needs
 
 same-length : tie.Need-same-length Inv-loop μ-loop
 same-length c =
@@ -59,21 +38,6 @@ returns c =
     let t = c .before .before .before .before .before in
     rows-broken _ _ _ _ _ _ (t .before .loop .inv .2) (t .before .before .before .before .pre .1) (t .loop-test .taken) _ _ _ _ (part-size _ _ _ (row-fits t)) (c .before .before .before .read-row .ensures) (c .if1 .taken)
 
-mul-place : tie.Need-mul-place Inv-loop μ-loop
-mul-place c = search needs
-
-add-place : tie.Need-add-place Inv-loop μ-loop
-add-place c = search needs
-
-add-place-2 : tie.Need-add-place-2 Inv-loop μ-loop
-add-place-2 c = search needs
-
-add-i : tie.Need-add-i Inv-loop μ-loop
-add-i c = search needs
-
-loop-less : tie.Need-loop-less Inv-loop μ-loop
-loop-less c = search needs
-
 loop-again : tie.Need-loop-again Inv-loop μ-loop
 loop-again c =
     let t = c .before .before .before .before .before in
@@ -82,12 +46,9 @@ loop-again c =
     let r = c .before .before .before .read-row in
     let part = r .last .1 .1 .1 .0 in
     let lent = c .before .before .table .given .0 in
-    let long = part-long (24 * l .i) (s .args .m) (l .table) part lent (row-fits t) in
+    let long = part-long (rowPlaces * l .i) (s .args .m) (l .table) part lent (row-fits t) in
     let g = rows-turn _ _ _ _ _ _ (l .inv .2) (s .pre .1) (t .loop-test .taken) _ _ part (part-size _ _ _ (row-fits t)) (r .ensures) (c .if1 .left) long in
-    (search needs, part-kept _ _ _ part lent (row-fits t) ∙ l .inv .1, rw (part-put (24 * l .i) (s .args .m) (l .table) part lent (row-fits t)) g)
-
-same-length-2 : tie.Need-same-length-2 Inv-loop μ-loop
-same-length-2 c = search needs
+    (search needs, part-kept _ _ _ part lent (row-fits t) ∙ l .inv .1, rw (part-put (rowPlaces * l .i) (s .args .m) (l .table) part lent (row-fits t)) g)
 
 returns-2 : tie.Need-returns-2 Inv-loop μ-loop
 returns-2 c =
@@ -96,25 +57,6 @@ returns-2 c =
 
 pub read-rows-spec : {M : Type 1} → statement M
 read-rows-spec =
-    tie.close
-    (tie.spec
-    Inv-loop
-    μ-loop
-    loop-holds
-    mul-a
-    add-e
-    mul-read-row
-    sub-read-row
-    part-read-row-start
-    part-read-row-end
-    read-row-requires
-    same-length
-    returns
-    mul-place
-    add-place
-    add-place-2
-    add-i
-    loop-less
-    loop-again
-    same-length-2
-    returns-2)
+    tie.close (tie.spec Inv-loop μ-loop loop-holds (search needs) (search needs) (search needs) (search needs) (search needs) (search needs)
+    (search needs) same-length returns (search needs) (search needs) (search needs) (search needs) (search needs) loop-again
+    (λ c. search needs) returns-2)

@@ -4,18 +4,12 @@ use mathlib.Core.Logic.{_≢_}
 use Prim.Native.Nat.{ℕ}
 use native.Mathlib.Omega.{arith}
 use Rattle.definitions.specs.Judgement.{judgeSize}
-use Rattle.definitions.specs.Text.{fieldAnswer}
+use Rattle.definitions.specs.Text.{fieldAt, fieldAnswer}
 use Rattle.text.specs.Reading.{field-go, field-stop, judged-stop}
 use Rattle.text.specs.Steps.{came-out, came-judged}
 use borrow.Author.Needs.{needs}
 use Rattle.text.proofs.read_size.Statement.{statement}
 use Rattle.text.proofs.read_size.Tie as tie
-
-field-at-requires : tie.Need-field-at-requires
-field-at-requires c κs = search needs
-
-enum-known-field : tie.Need-enum-known-field
-enum-known-field c = search needs
 
 enum-told : tie.Need-enum-told
 enum-told c = search needs
@@ -23,20 +17,16 @@ enum-told c = search needs
 returns : tie.Need-returns
 returns c =
     let a = c .before .before .before .before .args in
-    let e = field-stop (a .text .now) (a .at) (sym (c .before .before .field-at .ensures) ∙ ap fieldAnswer (c .enum-told .given .1)) in
+    let e = field-stop fieldAt (a .text .now) (a .at) (sym (c .before .before .field-at .ensures) ∙ ap fieldAnswer (c .enum-told .given .1)) in
     let three : _≢_ {A = ℕ} 3 0 = λ w. omega arith in
     came-out _ _ 3 three (judged-stop judgeSize _ 3 e)
-
-judge-size-requires : tie.Need-judge-size-requires
-judge-size-requires c κs = search needs
 
 returns-2 : tie.Need-returns-2
 returns-2 c =
     let a = c .before .before .before .before .before .before .args in
-    let e = field-go (a .text .now) (a .at) _ (sym (c .before .before .before .before .field-at .ensures) ∙ ap fieldAnswer (c .before .before .field .given .1)) in
+    let e = field-go fieldAt (a .text .now) (a .at) _ (sym (c .before .before .before .before .field-at .ensures) ∙ ap fieldAnswer (c .before .before .field .given .1)) in
     came-judged judgeSize _ _ _ _ e (c .judge-size .ensures) refl
 
 pub read-size-spec : {M : Type 1} → statement M
 read-size-spec =
-    tie.close
-    (tie.spec field-at-requires enum-known-field enum-told returns judge-size-requires returns-2)
+    tie.close (tie.spec (search needs) (search needs) enum-told returns (search needs) returns-2)

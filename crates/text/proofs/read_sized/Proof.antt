@@ -4,78 +4,28 @@ use mathlib.Core.Path.{_≡_}
 use native.Mathlib.Omega.{arith}
 use borrow.Author.Needs.{needs}
 use lib.ListN.{length}
+use Rattle.definitions.specs.Limits.{rowPlaces, tablePlaces}
 use Rattle.text.specs.Buffers.{part-size, part-long, part-put}
 use Rattle.text.specs.Pieces.{rows-place, sized-unlisted, sized-read}
 use Rattle.text.proofs.read_sized.Statement.{statement}
 use Rattle.text.proofs.read_sized.Tie as tie
 
-vertices-fit : (s : tie.Start) → 24 * s .args .d + s .args .m ≤ length (s .args .vertices .now)
+vertices-fit : (s : tie.Start) → rowPlaces * s .args .d + s .args .m ≤ length (s .args .vertices .now)
 vertices-fit s = omega (arith, s .pre .1, s .pre .3, s .pre .4 .all-vertices)
 
-lengths-fit : (s : tie.Start) → 576 * s .args .d + 576 ≤ length (s .args .lengths .now)
+lengths-fit : (s : tie.Start) → tablePlaces * s .args .d + tablePlaces ≤ length (s .args .lengths .now)
 lengths-fit s = omega (arith, s .pre .1, s .pre .4 .all-lengths)
-
-mul-a : tie.Need-mul-a
-mul-a c = search needs
-
-add-e : tie.Need-add-e
-add-e c = search needs
-
-add-read-vertices : tie.Need-add-read-vertices
-add-read-vertices c = search needs
-
-mul-read-vertices : tie.Need-mul-read-vertices
-mul-read-vertices c = search needs
-
-sub-read-vertices : tie.Need-sub-read-vertices
-sub-read-vertices c = search needs
-
-part-read-vertices-start : tie.Need-part-read-vertices-start
-part-read-vertices-start c = search needs
 
 part-read-vertices-end : tie.Need-part-read-vertices-end
 part-read-vertices-end c =
     let fit = vertices-fit (c .before .before .before) in
     search needs
 
-read-vertices-requires : tie.Need-read-vertices-requires
-read-vertices-requires c κs = search needs
-
-same-length : tie.Need-same-length
-same-length c = search needs
-
 returns : tie.Need-returns
 returns c =
     let w = c .before .before .before in
     let s = w .before .before .before .before .before in
     sized-unlisted _ _ _ _ _ _ _ (part-size _ _ _ (vertices-fit s)) (w .read-vertices .ensures) _ (c .if1 .taken)
-
-add-rows : tie.Need-add-rows
-add-rows c = search needs
-
-mul-rows : tie.Need-mul-rows
-mul-rows c = search needs
-
-add-rows-2 : tie.Need-add-rows-2
-add-rows-2 c = search needs
-
-add-rows-3 : tie.Need-add-rows-3
-add-rows-3 c = search needs
-
-mul-b : tie.Need-mul-b
-mul-b c = search needs
-
-add-f : tie.Need-add-f
-add-f c = search needs
-
-mul-read-table : tie.Need-mul-read-table
-mul-read-table c = search needs
-
-sub-read-table : tie.Need-sub-read-table
-sub-read-table c = search needs
-
-part-read-table-start : tie.Need-part-read-table-start
-part-read-table-start c = search needs
 
 part-read-table-end : tie.Need-part-read-table-end
 part-read-table-end c =
@@ -86,14 +36,8 @@ read-table-requires : tie.Need-read-table-requires
 read-table-requires c κs =
     let w = c .before .before .before .before in
     let s = w .before .before .before .before .before in
-    let all : 576 * s .args .d + 576 - 576 * s .args .d ≡ 576 = omega arith in
+    let all : tablePlaces * s .args .d + tablePlaces - tablePlaces * s .args .d ≡ tablePlaces = omega arith in
     (rows-place _ _ _ _ _ _ _ (part-size _ _ _ (vertices-fit s)) (w .read-vertices .ensures) (c .before .if1 .left), s .pre .2, s .pre .3, rw all (s .pre .4 .clear))
-
-same-length-2 : tie.Need-same-length-2
-same-length-2 c = search needs
-
-same-length-3 : tie.Need-same-length-3
-same-length-3 c = search needs
 
 returns-2 : tie.Need-returns-2
 returns-2 c =
@@ -102,36 +46,13 @@ returns-2 c =
     let s = w .before .before .before .before .before in
     let vs = w .read-vertices .last .1 .1 .1 .0 in
     let lent = c .before .before .before .before .before .before .vertices .given .0 in
-    let put-vertices = part-put (24 * s .args .d) (s .args .m) (s .args .vertices .now) vs lent (vertices-fit s) in
-    let put-table = part-put (576 * s .args .d) 576 (s .args .lengths .now) (t .read-table .last .1 .1 .1 .0) (c .before .lengths .given .0) (lengths-fit s) in
+    let put-vertices = part-put (rowPlaces * s .args .d) (s .args .m) (s .args .vertices .now) vs lent (vertices-fit s) in
+    let put-table = part-put (tablePlaces * s .args .d) tablePlaces (s .args .lengths .now) (t .read-table .last .1 .1 .1 .0) (c .before .lengths .given .0) (lengths-fit s) in
     rw (put-vertices, put-table)
     (sized-read _ _ _ _ _ _ _ (part-size _ _ _ (vertices-fit s)) (w .read-vertices .ensures) (c .before .before .before .before .if1 .left) (part-long _ _ _ vs lent (vertices-fit s)) _ _ (t .read-table .ensures) (s .pre .2) (s .pre .3) _ _ _)
 
 pub read-sized-spec : {M : Type 1} → statement M
 read-sized-spec =
-    tie.close
-    (tie.spec
-    mul-a
-    add-e
-    add-read-vertices
-    mul-read-vertices
-    sub-read-vertices
-    part-read-vertices-start
-    part-read-vertices-end
-    read-vertices-requires
-    same-length
-    returns
-    add-rows
-    mul-rows
-    add-rows-2
-    add-rows-3
-    mul-b
-    add-f
-    mul-read-table
-    sub-read-table
-    part-read-table-start
-    part-read-table-end
-    read-table-requires
-    same-length-2
-    same-length-3
-    returns-2)
+    tie.close (tie.spec (search needs) (search needs) (search needs) (search needs) (search needs) (search needs) part-read-vertices-end
+    (search needs) (search needs) returns (search needs) (search needs) (search needs) (search needs) (search needs) (search needs)
+    (search needs) (search needs) (search needs) part-read-table-end read-table-requires (search needs) (search needs) returns-2)

@@ -8,23 +8,8 @@ use borrow.Author.Needs.{needs}
 use Rattle.text.proofs.read_table.Statement.{statement}
 use Rattle.text.proofs.read_table.Tie as tie
 
-read-rows-requires : tie.Need-read-rows-requires
-read-rows-requires c κs = search needs
-
-same-length : tie.Need-same-length
-same-length c = search needs
-
 returns : tie.Need-returns
 returns c = table-broken _ _ _ _ _ (c .before .before .before .read-rows .ensures) (c .if1 .taken)
-
-cast-judge-blocks : tie.Need-cast-judge-blocks
-cast-judge-blocks c = search needs
-
-judge-blocks-requires : tie.Need-judge-blocks-requires
-judge-blocks-requires c κs = search needs
-
-same-length-2 : tie.Need-same-length-2
-same-length-2 c = search needs
 
 returns-2 : tie.Need-returns-2
 returns-2 c =
@@ -35,12 +20,4 @@ returns-2 c =
 
 pub read-table-spec : {M : Type 1} → statement M
 read-table-spec =
-    tie.close
-    (tie.spec
-    read-rows-requires
-    same-length
-    returns
-    cast-judge-blocks
-    judge-blocks-requires
-    same-length-2
-    returns-2)
+    tie.close (tie.spec (λ c κs. search needs) (search needs) returns (search needs) (search needs) (search needs) returns-2)

@@ -11,8 +11,18 @@ use borrow.Author.Needs.{needs}
 use Rattle.text.proofs.read_text.Statement.{statement}
 use Rattle.text.proofs.read_text.Tie as tie
 
+-- back from where the lengths were cleared: to the vertices, to the sizes, to where the text's length was accepted
+abbrev vertices-cleared : tie.After-fill3 → tie.After-fill2
+vertices-cleared c = c .before .before .before .before
+
+abbrev sizes-cleared : tie.After-fill3 → tie.After-fill
+sizes-cleared c = vertices-cleared c .before .before .before .before
+
+abbrev accepted : tie.After-fill3 → tie.Else2
+accepted c = sizes-cleared c .before .before
+
 -- the buffers' sizes, once they are accepted
-counts : (c : tie.Else1) → judgeBuffers (length (c .before .before .before .before .before .before .args .sizes .now)) (length (c .before .before .before .before .before .before .args .vertices .now)) (length (c .before .before .before .before .before .before .args .lengths .now)) ≡ 0
+counts : (c : tie.Else1) → let a = c .before .before .before .before .before .before .args in judgeBuffers (length (a .sizes .now)) (length (a .vertices .now)) (length (a .lengths .now)) ≡ 0
 counts c = sym (c .before .judge-buffers .ensures) ∙ c .if1 .left
 
 -- a cleared buffer of a known size, and its length
@@ -22,101 +32,47 @@ zeros e q = e ∙ ap (λ (i : ℕ). replicate i 0) q
 zeros-long : {l : List ℕ} {n i k : ℕ} → n ≡ length l → l ≡ replicate i 0 → i ≡ k → n ≡ k
 zeros-long same e q = same ∙ ap length e ∙ length-replicate {A = ℕ} _ 0 ∙ q
 
-judge-buffers-requires : tie.Need-judge-buffers-requires
-judge-buffers-requires c κs = search needs
-
-refusal-requires : tie.Need-refusal-requires
-refusal-requires c κs = search needs
-
 returns : tie.Need-returns
 returns c =
     rw (c .refusal .ensures) (after-buffers _ _ _ _ _ (c .before .before .judge-buffers .ensures) (c .before .if1 .taken))
-
-refusal-requires-2 : tie.Need-refusal-requires-2
-refusal-requires-2 c κs = search needs
 
 returns-2 : tie.Need-returns-2
 returns-2 c =
     rw (c .refusal2 .ensures) (after-long _ _ _ _ (counts (c .before .before)) (c .before .if2 .taken))
 
-fill-requires : tie.Need-fill-requires
-fill-requires c κs = search needs
-
-fill-requires-2 : tie.Need-fill-requires-2
-fill-requires-2 c κs = search needs
-
-fill-requires-3 : tie.Need-fill-requires-3
-fill-requires-3 c κs = search needs
-
 read-plan-requires : tie.Need-read-plan-requires
 read-plan-requires c κs =
-    let n = buffers-are _ _ _ (counts (c .before .before .before .before .before .before .before .before .before .before .before .before .before .before .before .before)) in
-    held-none _ _ _ (zeros (c .before .before .before .before .before .before .before .before .before .before .before .before .before .fill .ensures) (n .0)) (zeros (c .before .before .before .before .before .before .before .before .before .fill2 .ensures) (n .1)) (zeros (c .before .before .before .before .before .fill3 .ensures) (n .2))
-
-same-length : tie.Need-same-length
-same-length c = search needs
-
-same-length-2 : tie.Need-same-length-2
-same-length-2 c = search needs
-
-same-length-3 : tie.Need-same-length-3
-same-length-3 c = search needs
+    let f = c .before .before .before .before .before in
+    let n = buffers-are _ _ _ (counts (accepted f .before)) in
+    held-none _ _ _ (zeros (sizes-cleared f .fill .ensures) (n .0)) (zeros (vertices-cleared f .fill2 .ensures) (n .1)) (zeros (f .fill3 .ensures) (n .2))
 
 returns-3 : tie.Need-returns-3
 returns-3 c =
     let p = c .before .before .before .before .before .before .before in
-    after-done _ _ _ _ (counts (p .before .before .before .before .before .before .before .before .before .before .before .before .before .before .before .before .before)) (p .before .before .before .before .before .before .before .before .before .before .before .before .before .before .before .before .if2 .left) _ _ _ _ (p .read-plan .ensures) (c .if3 .taken)
-
-fill-requires-4 : tie.Need-fill-requires-4
-fill-requires-4 c κs = search needs
-
-fill-requires-5 : tie.Need-fill-requires-5
-fill-requires-5 c κs = search needs
-
-fill-requires-6 : tie.Need-fill-requires-6
-fill-requires-6 c κs = search needs
-
-same-length-4 : tie.Need-same-length-4
-same-length-4 c = search needs
-
-same-length-5 : tie.Need-same-length-5
-same-length-5 c = search needs
-
-same-length-6 : tie.Need-same-length-6
-same-length-6 c = search needs
+    let f = p .before .before .before .before .before .before in
+    after-done _ _ _ _ (counts (accepted f .before)) (accepted f .if2 .left) _ _ _ _ (p .read-plan .ensures) (c .if3 .taken)
 
 returns-4 : tie.Need-returns-4
 returns-4 c =
-    let p = c .before .before .before .before .before .before .before .before .before .before .before .before .before .before .before .before .before .before .before in
-    let fit = counts (p .before .before .before .before .before .before .before .before .before .before .before .before .before .before .before .before .before) in
+    let lengths-again = c .before .before in
+    let vertices-again = lengths-again .before .before .before .before in
+    let sizes-again = vertices-again .before .before .before .before in
+    let refused = sizes-again .before .before in
+    let lengths-back = refused .before .before in
+    let vertices-back = lengths-back .before .before in
+    let sizes-back = vertices-back .before .before in
+    let p = sizes-back .before in
+    let f = p .before .before .before .before .before .before in
+    let fit = counts (accepted f .before) in
     let n = buffers-are _ _ _ fit in
-    let sizes-long = zeros-long (c .before .before .before .before .before .before .before .before .before .before .before .before .before .before .before .before .before .before .sizes2 .given) (p .before .before .before .before .before .before .before .before .before .before .before .before .before .before .fill .ensures) (n .0) in
-    let vertices-long = zeros-long (c .before .before .before .before .before .before .before .before .before .before .before .before .before .before .before .before .vertices2 .given) (p .before .before .before .before .before .before .before .before .before .before .fill2 .ensures) (n .1) in
-    let lengths-long = zeros-long (c .before .before .before .before .before .before .before .before .before .before .before .before .before .before .lengths2 .given) (p .before .before .before .before .before .before .fill3 .ensures) (n .2) in
-    after-out _ _ _ _ fit (p .before .before .before .before .before .before .before .before .before .before .before .before .before .before .before .before .if2 .left) _ _ _ _ _ _ _ (p .read-plan .ensures) (c .before .before .before .before .before .before .before .before .before .before .before .before .if3 .left)
-    (zeros (c .before .before .before .before .before .before .before .before .before .before .fill4 .ensures) sizes-long) (zeros (c .before .before .before .before .before .before .fill5 .ensures) vertices-long) (zeros (c .before .before .fill6 .ensures) lengths-long)
+    let sizes-long = zeros-long (sizes-back .sizes2 .given) (sizes-cleared f .fill .ensures) (n .0) in
+    let vertices-long = zeros-long (vertices-back .vertices2 .given) (vertices-cleared f .fill2 .ensures) (n .1) in
+    let lengths-long = zeros-long (lengths-back .lengths2 .given) (f .fill3 .ensures) (n .2) in
+    after-out _ _ _ _ fit (accepted f .if2 .left) _ _ _ _ _ _ _ (p .read-plan .ensures) (refused .if3 .left)
+    (zeros (sizes-again .fill4 .ensures) sizes-long) (zeros (vertices-again .fill5 .ensures) vertices-long) (zeros (lengths-again .fill6 .ensures) lengths-long)
 
 pub read-text-spec : {M : Type 1} → statement M
 read-text-spec =
-    tie.close
-    (tie.spec
-    judge-buffers-requires
-    refusal-requires
-    returns
-    refusal-requires-2
-    returns-2
-    fill-requires
-    fill-requires-2
-    fill-requires-3
-    read-plan-requires
-    same-length
-    same-length-2
-    same-length-3
-    returns-3
-    fill-requires-4
-    fill-requires-5
-    fill-requires-6
-    same-length-4
-    same-length-5
-    same-length-6
-    returns-4)
+    tie.close (tie.spec (search needs) (search needs) returns (search needs) returns-2 (search needs) (search needs) (search needs)
+    read-plan-requires (search needs) (search needs) (search needs) returns-3 (search needs) (search needs) (search needs) (search needs)
+    (search needs) (search needs) returns-4)

@@ -4,31 +4,12 @@ use borrow.Author.Needs.{needs}
 use Rattle.text.proofs.read_vertices.Statement.{statement}
 use Rattle.text.proofs.read_vertices.Tie as tie
 
-read-line-requires : tie.Need-read-line-requires
-read-line-requires c κs = search needs
-
-same-length : tie.Need-same-length
-same-length c = search needs
-
 returns : tie.Need-returns
 returns c = judged-refused _ _ _ _ (c .before .before .before .read-line .ensures) (c .if1 .taken)
-
-judge-vertices-requires : tie.Need-judge-vertices-requires
-judge-vertices-requires c κs = search needs
-
-same-length-2 : tie.Need-same-length-2
-same-length-2 c = search needs
 
 returns-2 : tie.Need-returns-2
 returns-2 c = judged-then _ _ _ _ (c .before .before .before .before .before .read-line .ensures) (c .before .before .if1 .left) _ (c .judge-vertices .ensures)
 
 pub read-vertices-spec : {M : Type 1} → statement M
 read-vertices-spec =
-    tie.close
-    (tie.spec
-    read-line-requires
-    same-length
-    returns
-    judge-vertices-requires
-    same-length-2
-    returns-2)
+    tie.close (tie.spec (search needs) (search needs) returns (search needs) (search needs) returns-2)

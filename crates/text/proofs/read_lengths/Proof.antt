@@ -1,0 +1,12 @@
+-- `read_lengths`: a length field is read like any other.
+use borrow.Author.Needs.{needs}
+use Rattle.definitions.specs.Text.{lengthAt}
+use Rattle.text.proofs.read_lengths.Statement.{statement}
+use Rattle.text.proofs.read_lengths.Tie as tie
+
+returns : tie.Need-returns
+unfolding lengthAt
+returns c = c .before .before .read-line .ensures
+
+pub read-lengths-spec : {M : Type 1} → statement M
+read-lengths-spec = tie.close (tie.spec (search needs) (search needs) returns)
