@@ -54,3 +54,4 @@
 --   WinnerIs KeyChanged   the lowest block of least sum; one block has another key
 --   Key Won Played        the key of a block's best; a word is the lesser of the two below it; each word is
 --   Climbing Decreasing   every word is right but perhaps one; and that one once the new key is let in
+--   AtLevel               where a climb of all levels stands

@@ -4,6 +4,7 @@
 --   the-window the-sides the-entry                      a block is a window of the matrix
 --   row-vertex column-vertex                            where the vertices of a block stand
 --   vertex-found found-vertex                           the place of a vertex in a piece
+--   the-numbers the-place the-others                    all of these in the one array of tables
 --   the-piece first-window second-window first-half second-half    the blocks of a place, by the halving
 --   its-row no-row no-vertex elsewhere                  who is a row of a block
 -- Blocks are numbered from 0 here, pieces too. `Fits p sizes vertices lengths` says that there are at most 16 pieces, none larger than 24, and that
@@ -15,18 +16,19 @@ use mathlib.Core.Option.{none, some}
 use Prim.Native.Nat.{ℕ, suc, pred, _+_, _-_, _*_, _/_, _≤_, _<_}
 use native.Mathlib.Omega.{arith}
 use lib.ListN.{getD, length, take}
-use Rattle.definitions.specs.Limits.{maxVertices, maxSize, rowPlaces, vertexPlaces}
+use Rattle.definitions.specs.Limits.{maxVertices, maxPieces, maxSize, rowPlaces, vertexPlaces}
 use Rattle.definitions.specs.Network.{Piece, sizeOf, noPiece}
 use Rattle.definitions.specs.Blocks.{Window, windowsOf, Block, noBlock, blockOf, blocks}
 use Rattle.definitions.specs.Labelling.{placeOf}
 use Rattle.definitions.specs.Judgement.{pieceAt, piecesOf}
 use Rattle.basics.specs.Lists.{Different}
 use Rattle.monge.specs.Matrix.{at}
-use Rattle.layout.specs.Layout.{sizeAt, matrixOf, placeNumber, placesOf, partsOf, slotIn, rowIn, colIn, colsIn, lastIn, rowCountIn, maxBlocks, maxWords, placementsOf, firstsOf}
+use Rattle.layout.specs.Layout.{sizeAt, matrixOf, placeNumber, placesOf, partsOf, slotIn, rowIn, colIn, colsIn, lastIn, rowCountIn, maxBlocks, maxWords, placementsOf, firstsOf, tablesOf, placeIn, firstIn, sizeIn, vertexIn, piecesIn}
 use Rattle.layout.specs.Placements.{length-upTo, blocks-few}
 use Rattle.layout.specs.Numbering.{Fits, noWindow, first-is, firsts-are, Numbered, numbered}
 use Rattle.layout.specs.Places.{place-found, found-place}
 use Rattle.layout.specs.Parts.{block-count, block-of, row-at, slots-apart, slots-end, rows-in, cols-in, cols-are, rows-are, sides-in, entry-is, row-vertex-is, column-is}
+use Rattle.layout.specs.Tables.{NumbersSame, numbers-same, place-in, first-in, size-in, vertex-in, pieces-in}
 use Rattle.layout.specs.Stretches.{forth, back, Stretch, stretch-whole, stretch-first, stretch-second, stretch-left, stretch-right}
 use Rattle.layout.specs.Rows.{row-inside, row-outside, row-absent, row-elsewhere}
 
@@ -41,7 +43,7 @@ module _ (p : ℕ) (sizes vertices lengths : List ℕ) (fits : Fits p sizes vert
   unfolding placementsOf
   the-count = omega (arith, block-count p sizes vertices lengths fits, length-upTo p sizes 16, blocks-few p sizes 16)
 
-  -- `firsts` returns for piece d how many blocks the pieces before it have.
+  -- The first blocks: for piece d how many blocks the pieces before it have.
   pub first-block : (d : ℕ) → d < p → getD (firstsOf p sizes) d 0 ≡ length (blocks (take d (piecesOf p sizes vertices lengths)))
   first-block d l = firsts-are p sizes d (omega (arith, fits .pieces-in)) ∙ first-is p sizes vertices lengths fits d (omega arith)
 
@@ -115,6 +117,23 @@ module _ (p : ℕ) (sizes vertices lengths : List ℕ) (fits : Fits p sizes vert
   pub found-vertex : (d : ℕ) → d < p → (v : ℕ) → 1 ≤ v → v ≤ maxVertices → (i : ℕ) → getD (placesOf p sizes vertices) (placeNumber v d) 0 ≡ suc i
       → (i < sizeAt p sizes d) × (getD (pieceAt sizes vertices lengths d .vertices) i 0 ≡ v)
   found-vertex = found-place p sizes vertices lengths fits
+
+-- ---- the one array
+
+module _ (p : ℕ) (sizes vertices : List ℕ) where
+  -- Block b has the numbers that are stored for it.
+  the-numbers : (b : ℕ) → b < maxBlocks → NumbersSame (tablesOf p sizes vertices) (partsOf p sizes) b
+  the-numbers = numbers-same p sizes vertices
+
+  the-place : (v d : ℕ) → v ≤ maxVertices → 1 ≤ v → d < maxPieces → placeIn (tablesOf p sizes vertices) v d ≡ getD (placesOf p sizes vertices) (placeNumber v d) 0
+  the-place = place-in p sizes vertices
+
+  -- The first block and the size of a piece, the vertex of a place, how many pieces there are.
+  the-others : ((d : ℕ) → d < maxPieces → firstIn (tablesOf p sizes vertices) d ≡ getD (firstsOf p sizes) d 0)
+      × ((d : ℕ) → d < maxPieces → sizeIn (tablesOf p sizes vertices) d ≡ sizeAt p sizes d)
+      × ((i : ℕ) → i < vertexPlaces → vertexIn (tablesOf p sizes vertices) i ≡ getD vertices i 0)
+      × (piecesIn (tablesOf p sizes vertices) ≡ p)
+  the-others = (first-in p sizes vertices, size-in p sizes vertices, vertex-in p sizes vertices, pieces-in p sizes vertices)
 
 -- ---- the halving
 

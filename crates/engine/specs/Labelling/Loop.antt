@@ -71,6 +71,10 @@ IsLabelling bs source r labels-now = (r ≡ labelAnswer (labelling bs source)) �
 
 -- ---- how many
 
+-- what the calls on a block insert at most
+abbrev inserts : Block → ℕ
+inserts b = activationInserts * length (b .rows) + extractionInserts * length (b .cols)
+
 -- a block has at most so many rows and columns, and there are at most so many blocks
 module _ {t : Tables} {bs : List Block} (parted : Parted t bs) where
   sides : (b : ℕ) → b < length bs → (length (getD bs b noBlock .rows) ≤ maxSize) × (length (getD bs b noBlock .cols) ≤ maxSize)
@@ -82,8 +86,8 @@ module _ {t : Tables} {bs : List Block} (parted : Parted t bs) where
   unfolding columns
   columns-most = omega (arith, total-most (λ (b : Block). length (b .cols)) maxSize bs (every-all _ bs noBlock (λ b l. sides b l .1)), parted .few)
 
-  inserted-most : total (map (λ b. activationInserts * length (b .rows) + extractionInserts * length (b .cols)) bs) ≤ maxInserted
-  inserted-most = omega (arith, total-most (λ (b : Block). activationInserts * length (b .rows) + extractionInserts * length (b .cols)) blockInserts bs (every-all _ bs noBlock (λ b l. omega (arith, sides b l))), parted .few)
+  inserted-most : total (map inserts bs) ≤ maxInserted
+  inserted-most = omega (arith, total-most inserts blockInserts bs (every-all _ bs noBlock (λ b l. omega (arith, sides b l))), parted .few)
 
 -- ---- after k steps
 
@@ -125,7 +129,8 @@ module _ {s : Store} {source n : ℕ} {qs : List Piece} (mapped : Mapped (s .arr
     unfolding labelAnswer
     stopped = rw (← last) (rw (g .reached-is, g .inserted-is, g .extracted-is) refl, g .shows)
 
-  module _ {words tree : List ℕ} {v z m : ℕ} (t : VertexExtracted (Running (changed (s .arrays) (s .arrays .heaps .rowLabels) words tree) (blocks qs)) ((steps k (start (blocks qs) source)) .blocks) v z m) where
+  module _ {words tree : List ℕ} {v z m : ℕ}
+      (t : VertexExtracted (Running (changed (s .arrays) (s .arrays .heaps .rowLabels) words tree) (blocks qs)) ((steps k (start (blocks qs) source)) .blocks) v z m) where
     abbrev i : ℕ
     i = t .block
 
@@ -280,7 +285,8 @@ module _ {s : Store} {a : LabelAnswer} (needs : AdvanceNeeds s a) where
         pub step-settles : SettleNeeds extractedNow v z
         step-settles = vertex-needs (here .mapped) (here .setting) (here .steps-done) (extracted (needs .source) (needs .n) (needs .pieces) here) blank
 
-        pub step-new : {rowLabels′ words′ tree′ : List ℕ} {m′ : ℕ} → SettleLeaves extractedNow (changed (s .arrays) rowLabels′ words′ tree′) v z m′ → (source n : ℕ) (qs : List Piece) → Underway s a source n qs
+        pub step-new : {rowLabels′ words′ tree′ : List ℕ} {m′ : ℕ} → SettleLeaves extractedNow (changed (s .arrays) rowLabels′ words′ tree′) v z m′
+            → (source n : ℕ) (qs : List Piece) → Underway s a source n qs
             → Underway (changedStore s rowLabels′ words′ tree′ (set (s .labels) (v - 1) z)) (countedWith a 1 (m + m′)) source n qs
         step-new {rowLabels′ = rowLabels′} {words′ = words′} {tree′ = tree′} {m′ = m′} settles source n qs u =
             let sum : a .inserted + m + m′ ≡ a .inserted + (m + m′) = omega arith in

@@ -155,5 +155,9 @@ module _ (n p : ℕ) (sizes vertices lengths : List ℕ) (source : ℕ) (fits : 
         let few : getD (placementsOf p sizes) b noPlacement .size ≤ maxSize = rw (h .size-same) (size-small p sizes _) in
         let cols = cols-is p sizes b (number b l) in
         let high : lastIn (partsOf p sizes) b < vertexPlaces = omega (arith, last, cols, h .inside .cols-in, h .piece-in, fits .pieces-in) in
-        rw (numbers b l .last) (omega (arith, last, cols), high, rw (vertex-in p sizes vertices (lastIn (partsOf p sizes) b - c) (omega arith)) (column-is p sizes vertices lengths fits b (number b l) c wide));
+        rw (numbers b l .last) (
+          omega (arith, last, cols),
+          high,
+          rw (vertex-in p sizes vertices (lastIn (partsOf p sizes) b - c) (omega arith)) (column-is p sizes vertices lengths fits b (number b l) c wide),
+        );
   }

@@ -87,6 +87,25 @@ module _ (p : ℕ) (sizes vertices l : List ℕ) (fresh : l ≡ replicate tableC
               ap (λ (t : List ℕ). set t piecesAt p) (front₅ .is) ∙ set-padded tableCount ys piecesAt p (front₅ .count) (omega arith)
               ∙ ap (λ (k : ℕ). (ys ++ p ∷ []) ++ replicate k 0) e ∙ append-nil (ys ++ p ∷ []) ∙ simp append-assoc
 
+-- ---- places
+
+abbrev start : tie.After-fill-parts → tie.Start
+start c = c .before .before .before .before .before
+
+abbrev one : tie.After-fill-places → tie.After-fill-parts
+one c = c .before .before .before .before
+
+abbrev two : tie.After-fill-firsts → tie.After-fill-places
+two c = c .before .before .before .before
+
+abbrev three : tie.After-fill-sizes → tie.After-fill-firsts
+three c = c .before .before .before .before
+
+abbrev four : tie.After-fill-vertices → tie.After-fill-sizes
+four c = c .before .before .before .before
+
+-- ---- needs
+
 part-fill-parts-end : tie.Need-part-fill-parts-end
 part-fill-parts-end c = omega (arith, long _ _ 0 (begun _ (c .before .before .before .pre)) (omega arith))
 
@@ -95,48 +114,75 @@ fill-parts-requires c κs = zeros _ _ 0 (begun _ (c .before .before .before .bef
 
 part-fill-places-end : tie.Need-part-fill-places-end
 part-fill-places-end c =
-    let a = c .before .before .before .before .before .before .before in
-    let long = long _ _ _ (front₁ (a .args .p) (a .args .sizes .now) (a .args .vertices .now) _ (a .pre) _ (c .before .before .fill-parts .ensures)) (omega arith) in
+    let c₁ = c .before .before in
+    let a = start c₁ in
+    let long = long _ _ _ (front₁ (a .args .p) (a .args .sizes .now) (a .args .vertices .now) _ (a .pre) _ (c₁ .fill-parts .ensures)) (omega arith) in
     omega arith
 
 fill-places-requires : tie.Need-fill-places-requires
 fill-places-requires c κs =
-    let a = c .before .before .before .before .before .before .before .before in
-    zeros _ _ _ (front₁ (a .args .p) (a .args .sizes .now) (a .args .vertices .now) _ (a .pre) _ (c .before .before .before .fill-parts .ensures)) firstsAt (omega arith) (omega arith)
+    let c₁ = c .before .before .before in
+    let a = start c₁ in
+    zeros _ _ _ (front₁ (a .args .p) (a .args .sizes .now) (a .args .vertices .now) _ (a .pre) _ (c₁ .fill-parts .ensures)) firstsAt (omega arith) (omega arith)
 
 part-fill-firsts-end : tie.Need-part-fill-firsts-end
 part-fill-firsts-end c =
-    let a = c .before .before .before .before .before .before .before .before .before .before .before in
-    let long = long _ _ _ (front₂ (a .args .p) (a .args .sizes .now) (a .args .vertices .now) _ (a .pre) _ (c .before .before .before .before .before .before .fill-parts .ensures) _ (c .before .before .fill-places .ensures)) (omega arith) in
+    let c₂ = c .before .before in
+    let c₁ = one c₂ in
+    let a = start c₁ in
+    let long = long _ _ _ (front₂ (a .args .p) (a .args .sizes .now) (a .args .vertices .now) _ (a .pre) _ (c₁ .fill-parts .ensures) _ (c₂ .fill-places .ensures)) (omega arith) in
     omega arith
 
 part-fill-sizes-end : tie.Need-part-fill-sizes-end
 part-fill-sizes-end c =
-    let a = c .before .before .before .before .before .before .before .before .before .before .before .before .before .before .before in
-    let long = long _ _ _ (front₃ (a .args .p) (a .args .sizes .now) (a .args .vertices .now) _ (a .pre) _ (c .before .before .before .before .before .before .before .before .before .before .fill-parts .ensures) _ (c .before .before .before .before .before .before .fill-places .ensures) _ (c .before .before .fill-firsts .ensures)) (omega arith) in
+    let c₃ = c .before .before in
+    let c₂ = two c₃ in
+    let c₁ = one c₂ in
+    let a = start c₁ in
+    let long = long _ _ _ (front₃ (a .args .p) (a .args .sizes .now) (a .args .vertices .now) _ (a .pre) _ (c₁ .fill-parts .ensures) _ (c₂ .fill-places .ensures) _ (c₃ .fill-firsts .ensures)) (omega arith) in
     omega arith
 
 part-fill-vertices-end : tie.Need-part-fill-vertices-end
 part-fill-vertices-end c =
-    let a = c .before .before .before .before .before .before .before .before .before .before .before .before .before .before .before .before .before .before .before in
-    let long = long _ _ _ (front₄ (a .args .p) (a .args .sizes .now) (a .args .vertices .now) _ (a .pre) _ (c .before .before .before .before .before .before .before .before .before .before .before .before .before .before .fill-parts .ensures) _ (c .before .before .before .before .before .before .before .before .before .before .fill-places .ensures) _ (c .before .before .before .before .before .before .fill-firsts .ensures) _ (c .before .before .fill-sizes .ensures)) (omega arith) in
+    let c₄ = c .before .before in
+    let c₃ = three c₄ in
+    let c₂ = two c₃ in
+    let c₁ = one c₂ in
+    let a = start c₁ in
+    let long = long _ _ _ (front₄ (a .args .p) (a .args .sizes .now) (a .args .vertices .now) _ (a .pre) _ (c₁ .fill-parts .ensures) _ (c₂ .fill-places .ensures) _ (c₃ .fill-firsts .ensures) _ (c₄ .fill-sizes .ensures)) (omega arith) in
     omega arith
 
 slice-write-tables : tie.Need-slice-write-tables
 slice-write-tables c =
-    let a = c .before .before .before .before .before .before .before .before .before .before .before .before .before .before .before .before .before .before .before .before .before .before .before in
-    let long = long _ _ _ (front₅ (a .args .p) (a .args .sizes .now) (a .args .vertices .now) _ (a .pre) _ (c .before .before .before .before .before .before .before .before .before .before .before .before .before .before .before .before .before .before .fill-parts .ensures) _ (c .before .before .before .before .before .before .before .before .before .before .before .before .before .before .fill-places .ensures) _ (c .before .before .before .before .before .before .before .before .before .before .fill-firsts .ensures) _ (c .before .before .before .before .before .before .fill-sizes .ensures) _ (c .before .before .fill-vertices .ensures)) (omega arith) in
+    let c₅ = c .before .before in
+    let c₄ = four c₅ in
+    let c₃ = three c₄ in
+    let c₂ = two c₃ in
+    let c₁ = one c₂ in
+    let a = start c₁ in
+    let long = long _ _ _ (front₅ (a .args .p) (a .args .sizes .now) (a .args .vertices .now) _ (a .pre) _ (c₁ .fill-parts .ensures) _ (c₂ .fill-places .ensures) _ (c₃ .fill-firsts .ensures) _ (c₄ .fill-sizes .ensures) _ (c₅ .fill-vertices .ensures)) (omega arith) in
     omega arith
 
 same-length : tie.Need-same-length
 same-length c =
-    let a = c .before .before .before .before .before .before .before .before .before .before .before .before .before .before .before .before .before .before .before .before .before .before .before in
-    simp length-set (long _ _ _ (front₅ (a .args .p) (a .args .sizes .now) (a .args .vertices .now) _ (a .pre) _ (c .before .before .before .before .before .before .before .before .before .before .before .before .before .before .before .before .before .before .fill-parts .ensures) _ (c .before .before .before .before .before .before .before .before .before .before .before .before .before .before .fill-places .ensures) _ (c .before .before .before .before .before .before .before .before .before .before .fill-firsts .ensures) _ (c .before .before .before .before .before .before .fill-sizes .ensures) _ (c .before .before .fill-vertices .ensures)) (omega arith) ∙ sym (long _ _ 0 (begun _ (a .pre)) (omega arith)))
+    let c₅ = c .before .before in
+    let c₄ = four c₅ in
+    let c₃ = three c₄ in
+    let c₂ = two c₃ in
+    let c₁ = one c₂ in
+    let a = start c₁ in
+    simp length-set (long _ _ _ (front₅ (a .args .p) (a .args .sizes .now) (a .args .vertices .now) _ (a .pre) _ (c₁ .fill-parts .ensures) _ (c₂ .fill-places .ensures) _ (c₃ .fill-firsts .ensures) _ (c₄ .fill-sizes .ensures) _ (c₅ .fill-vertices .ensures)) (omega arith)
+    ∙ sym (long _ _ 0 (begun _ (a .pre)) (omega arith)))
 
 returns : tie.Need-returns
 returns c =
-    let a = c .before .before .before .before .before .before .before .before .before .before .before .before .before .before .before .before .before .before .before .before .before .before .before in
-    all (a .args .p) (a .args .sizes .now) (a .args .vertices .now) _ (a .pre) _ (c .before .before .before .before .before .before .before .before .before .before .before .before .before .before .before .before .before .before .fill-parts .ensures) _ (c .before .before .before .before .before .before .before .before .before .before .before .before .before .before .fill-places .ensures) _ (c .before .before .before .before .before .before .before .before .before .before .fill-firsts .ensures) _ (c .before .before .before .before .before .before .fill-sizes .ensures) _ (c .before .before .fill-vertices .ensures)
+    let c₅ = c .before .before in
+    let c₄ = four c₅ in
+    let c₃ = three c₄ in
+    let c₂ = two c₃ in
+    let c₁ = one c₂ in
+    let a = start c₁ in
+    all (a .args .p) (a .args .sizes .now) (a .args .vertices .now) _ (a .pre) _ (c₁ .fill-parts .ensures) _ (c₂ .fill-places .ensures) _ (c₃ .fill-firsts .ensures) _ (c₄ .fill-sizes .ensures) _ (c₅ .fill-vertices .ensures)
 
 pub fill-tables-spec : {M : Type 1} → statement M
 fill-tables-spec =

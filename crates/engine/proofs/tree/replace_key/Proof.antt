@@ -9,12 +9,13 @@ use lib.ListN.{length, length-set}
 use lib.Seq.{getD-set-same}
 use Rattle.engine.specs.Tree.Pairs.{sibling, pair}
 use Rattle.engine.specs.Tree.Words.{levels, leaves, treeWords, at}
-use Rattle.engine.specs.Tree.Climb.{Climbing, climb-start, climb-on, climb-done, Level, level-above, level-on}
+use Rattle.engine.specs.Tree.Climb.{Climbing, climb-start, climb-on, climb-done, AtLevel, level-above, level-on}
 use Rattle.engine.proofs.tree.replace_key.Statement.{statement}
 use Rattle.engine.proofs.tree.replace_key.Tie as tie
 
 abbrev Inv-loop : tie.InvT-loop
-Inv-loop tree₀ b x t₀ lesser₀ counter₀ tree t lesser counter = (counter ≤ levels) × (length tree ≡ treeWords) × Level counter t × (at tree t ≡ lesser) × ((before : List ℕ) → Climbing b x before tree₀ (t₀ / 2) → Climbing b x before tree (t / 2))
+Inv-loop tree₀ b x t₀ lesser₀ counter₀ tree t lesser counter =
+    (counter ≤ levels) × (length tree ≡ treeWords) × AtLevel counter t × (at tree t ≡ lesser) × ((before : List ℕ) → Climbing b x before tree₀ (t₀ / 2) → Climbing b x before tree (t / 2))
 
 abbrev μ-loop : tie.MeasureT-loop
 μ-loop tree₀ b x t₀ lesser₀ counter₀ tree t lesser counter = levels - counter
