@@ -36,6 +36,39 @@ impl Network {
     pub const LABEL_PLACES: usize = Network::MAX_VERTICES as usize;
 }
 
+// The bounds of a session, and the sizes of its lent buffers.
+pub struct Session;
+
+impl Session {
+    pub const MAX_SIDE: u32 = 24;
+
+    pub const MAX_CALLS: u32 = 64;
+
+    // the numbers of a call: its kind, a row, a label
+    pub const CALL_SIZE: usize = 3;
+
+    // the numbers of an answer: its code, a column, a sum
+    pub const ANSWER_SIZE: usize = 3;
+
+    // the numbers of an interval: its parent, its first and its last column
+    pub const INTERVAL_SIZE: usize = 3;
+
+    // the rows of the rectangle
+    pub const SIDE_PLACES: usize = Session::MAX_SIDE as usize;
+
+    pub const RECTANGLE_PLACES: usize = Session::SIDE_PLACES * Network::ROW_PLACES;
+
+    pub const CALL_PLACES: usize = Session::CALL_SIZE * Session::MAX_CALLS as usize;
+
+    pub const ANSWER_PLACES: usize = Session::ANSWER_SIZE * Session::MAX_CALLS as usize;
+
+    // no two intervals share a column
+    pub const INTERVAL_PLACES: usize = Session::INTERVAL_SIZE * Session::SIDE_PLACES;
+
+    // what stands where there is no interval
+    pub const UNUSED: u32 = 255;
+}
+
 // The layout of a text.
 pub struct Text;
 
@@ -89,4 +122,23 @@ impl Cause {
     pub const BLOCK: u32 = 7;
 
     pub const SOURCE: u32 = 8;
+}
+
+// The codes that a session's calls answer.
+pub struct Code;
+
+impl Code {
+    pub const DONE: u32 = 0;
+
+    // the kind is not 1 or 2, or the row is out of range
+    pub const CALL: u32 = 9;
+
+    // the row is already activated
+    pub const ROW_AGAIN: u32 = 10;
+
+    // the label is above the limit or below the floor
+    pub const LABEL: u32 = 11;
+
+    // no interval is left
+    pub const NOTHING: u32 = 50;
 }

@@ -12,7 +12,7 @@ use lib.ListN.{getD, length, take, drop, replicate}
 use Rattle.definitions.specs.declared.ReadAnswer.{ReadAnswer}
 use Rattle.definitions.specs.declared.LabelAnswer.{LabelAnswer}
 use Rattle.definitions.specs.declared.SessionAnswer.{SessionAnswer}
-use Rattle.definitions.specs.Limits.{maxLength, maxSide, maxCalls, sizePlaces, vertexPlaces, lengthPlaces, rowPlaces, labelPlaces, rectanglePlaces, callPlaces, answerPlaces, intervalPlaces, columnBytes, linePlaces, lastPlace, unusedInterval}
+use Rattle.definitions.specs.Limits.{maxLength, maxSide, maxCalls, sizePlaces, vertexPlaces, lengthPlaces, rowPlaces, labelPlaces, rectanglePlaces, callPlaces, answerPlaces, intervalPlaces, columnBytes, linePlaces, lastPlace, unusedInterval, callSize, answerSize}
 use Rattle.definitions.specs.Lists.{all, upFrom, padded, within, firstCause}
 use Rattle.definitions.specs.Network.{Rectangle}
 use Rattle.definitions.specs.Blocks.{isMonge, blocks}
@@ -53,7 +53,7 @@ judgeSession rows cols count lengths calls answers kept =
 
 -- call j of the lent numbers, three for each
 unfoldable pub callAt : List ℕ → ℕ → Call
-callAt calls j = record { kind = getD calls (3 * j) 0; row = getD calls (3 * j + 1) 0; label = getD calls (3 * j + 2) 0 }
+callAt calls j = record { kind = getD calls (callSize * j) 0; row = getD calls (callSize * j + 1) 0; label = getD calls (callSize * j + 2) 0 }
 
 -- the first `count` calls
 unfoldable pub callsOf : List ℕ → ℕ → List Call
@@ -61,7 +61,7 @@ callsOf calls count = map (callAt calls) (upFrom 0 count)
 
 -- the three numbers of an answer
 abbrev pub answerNumbers : Answer → List ℕ
-answerNumbers a = a .code ∷ a .column ∷ a .total ∷ []
+answerNumbers a = a .code ∷ a .column ∷ a .sum ∷ []
 
 -- "answers 192 (unused places 0)"
 unfoldable pub answersOf : List Answer → List ℕ
@@ -69,7 +69,7 @@ answersOf answers = padded answerPlaces 0 (flatMap answerNumbers answers)
 
 -- answer j of the answer buffer, and its first `count` answers
 unfoldable pub answerAt : List ℕ → ℕ → Answer
-answerAt answers j = record { code = getD answers (3 * j) 0; column = getD answers (3 * j + 1) 0; total = getD answers (3 * j + 2) 0 }
+answerAt answers j = record { code = getD answers (answerSize * j) 0; column = getD answers (answerSize * j + 1) 0; sum = getD answers (answerSize * j + 2) 0 }
 
 unfoldable pub answersIn : List ℕ → ℕ → List Answer
 answersIn answers count = map (answerAt answers) (upFrom 0 count)

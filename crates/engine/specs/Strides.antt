@@ -1,15 +1,18 @@
 -- Groups of `width` numbers, one behind the other from place `start` on.
 --   group-ends                    a group ends before a later one begins
 --   sets-before sets-at sets-behind    what is read after numbers are stored from a place on
+--   sets-more                     one number more is stored
 --   stored-here stored-other      what is read from the group that is stored, and from another one
 use mathlib.Core.Path.{_≡_, refl, _∙_}
 use mathlib.Core.List.{List, [], _∷_}
 use mathlib.Core.Logic.{_≢_, ⊎-elim, _⊎_}
 use Prim.Native.Nat.{ℕ, zero, suc, _+_, _*_, _≤_, _<_}
 use native.Mathlib.Nat.{mul-le-mul, mul-suc, add-zero}
+use native.Mathlib.Numerals.{add-one}
 use native.Mathlib.Omega.{arith}
-use lib.ListN.{length, getD, set, length-set}
-use lib.Seq.{getD-set-same, getD-set-other, sets}
+use lib.ListN.{length, getD, set, take, length-set}
+use lib.Seq.{take-suc, length-take-le, getD-set-same, getD-set-other, sets}
+use Rattle.layout.specs.Numbers.{sets-append}
 
 pub group-ends : (width j k : ℕ) → j < k → width * j + width ≤ width * k
 group-ends width j k l = omega (arith, mul-suc width j, mul-le-mul {n₁ = width} {m₁ = suc j} {n₂ = width} {m₂ = k} (omega arith) l)
@@ -32,6 +35,9 @@ sets-at l (x ∷ xs) a zero h r = rw add-zero (sets-before (set l a x) xs (suc a
 sets-at l (x ∷ xs) a (suc i) h r =
     let e : a + suc i ≡ suc a + i = omega arith in
     rw e (sets-at (set l a x) xs (suc a) i (omega arith) (simp length-set (omega arith)))
+
+pub sets-more : (l xs : List ℕ) (a i : ℕ) → i < length xs → set (sets l a (take i xs)) (a + i) (getD xs i 0) ≡ sets l a (take (i + 1) xs)
+sets-more l xs a i h = rw (add-one, take-suc xs i 0 h, sets-append (take i xs) (getD xs i 0 ∷ []) l a, length-take-le i xs (omega arith))
 
 module _ (start width : ℕ) (l xs : List ℕ) (k : ℕ) (long : length xs ≡ width) where
   pub stored-here : (i : ℕ) → i < width → start + width * k + width ≤ length l → getD (sets l (start + width * k) xs) (start + width * k + i) 0 ≡ getD xs i 0

@@ -130,7 +130,7 @@ module _ (e : Rectangle) (rows cols : ℕ) (ks : List Call) where
   extraction-none k h none = extraction.extraction-none e rows cols model k h none
 
   pub extraction-some : (k : Call) → k .kind ≡ 2 → kept ≢ [] → (c : ℕ) × (s : ℕ) × LeastLeft e cols model c s
-      × (step e rows cols model k ≡ record { model = extract model (by c s); answer = record { code = 0; column = c; total = s } })
+      × (step e rows cols model k ≡ record { model = extract model (by c s); answer = record { code = 0; column = c; sum = s } })
   extraction-some k h some = extraction.extraction-some e rows cols model k h some
 
   -- Over all calls: each extraction answers none exactly if no interval is left where its turn comes, else the least that is left.

@@ -1,6 +1,7 @@
 -- From the check of a block, of neighbouring rows and columns, to all pairs. Nothing else in the laws looks at neighbours.
 --   isMonge-is isMonge-from       the test that computes, and the inequality of neighbours
 --   monge-all                     M1: the inequality for all pairs of rows and of columns
+--   monge-neighbours              and back: neighbours are a pair
 --   isMonge-all                   so a block that passes has it
 use mathlib.Core.Path.{_≡_}
 use mathlib.Core.Bool.{true}
@@ -38,6 +39,9 @@ module _ (e : Rectangle) (rows cols : ℕ) (ok : Monge e rows cols) where
 
   pub monge-all : MongeAll e rows cols
   monge-all i j k l ij hj kl hl = any i k l kl hl j ij hj
+
+pub monge-neighbours : (e : Rectangle) (rows cols : ℕ) → MongeAll e rows cols → Monge e rows cols
+monge-neighbours e rows cols ok i k hi hk = ok i (suc i) k (suc k) (omega arith) hi (omega arith) hk
 
 pub isMonge-all : (e : Rectangle) (rows cols : ℕ) → isMonge e rows cols ≡ true → MongeAll e rows cols
 isMonge-all e rows cols t = monge-all e rows cols (isMonge-is e rows cols t)

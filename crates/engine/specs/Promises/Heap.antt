@@ -8,8 +8,8 @@ use lib.ListN.{getD, length}
 use Rattle.definitions.specs.Limits.{maxSide, maxLength, rowPlaces}
 use Rattle.definitions.specs.Lists.{Every}
 use Rattle.definitions.specs.Network.{Rectangle}
+use Rattle.definitions.specs.Blocks.{Monge}
 use Rattle.definitions.specs.Model.{Activation, Model, intervals, Reached}
-use Rattle.heap_laws.specs.Inequality.{MongeAll}
 use Rattle.layout.specs.HeapWords.{heapWords}
 use Rattle.engine.specs.Promises.Words.{markOf, kept}
 
@@ -23,7 +23,7 @@ pub record Checked (rows : List (List ℕ)) (col0 cols : ℕ) : Type 0 where
   pub few : length rows ≤ maxSide
   pub inside : col0 + cols ≤ rowPlaces
   pub short : (i k : ℕ) → i < length rows → k < cols → entry rows col0 i k ≤ maxLength
-  pub monge : MongeAll (entry rows col0) (length rows) cols
+  pub monge : Monge (entry rows col0) (length rows) cols
 
 -- whether a row is activated
 unfoldable pub mark : List Activation → ℕ

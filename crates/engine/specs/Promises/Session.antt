@@ -9,10 +9,11 @@ use mathlib.Core.Bool.{false}
 use mathlib.Core.List.{List, [], _∷_, _++_, map, flatMap}
 use Prim.Native.Nat.{ℕ, _+_, _*_, _≤_, _<_}
 use lib.ListN.{getD, length, drop, replicate}
-use Rattle.definitions.specs.Limits.{unreached}
+use Rattle.definitions.specs.Limits.{maxSide, rowPlaces, answerSize, unreached}
 use Rattle.definitions.specs.Lists.{total, Every}
 use Rattle.definitions.specs.Model.{Model, fresh, isActivated, intervals, Distinct, countNew, Call, Answer, Stepped, step, allowance, ExtractsLeast, Trace, trace, AllExtractLeast, allowances}
 use Rattle.definitions.specs.Entries.{answerNumbers}
+use Rattle.layout.specs.HeapWords.{heapWords}
 use Rattle.engine.specs.declared.session.Called.{Called}
 use Rattle.engine.specs.Promises.Words.{kept}
 use Rattle.engine.specs.Promises.Heap.{entry, Checked, Holds}
@@ -31,7 +32,7 @@ stepOf rows cols m k = step (entry rows 0) (length rows) cols m k
 
 -- code, column and sum of what a call returns
 abbrev pub answerIn : Called → Answer
-answerIn r = record { code = r .code; column = r .column; total = r .total }
+answerIn r = record { code = r .code; column = r .column; sum = r .sum }
 
 -- The call k on the model m returns r and leaves these words and labels: they are those of the next model; the answer and the counts are the model's.
 pub record Steps (rows : List (List ℕ)) (cols : ℕ) (m : Model) (k : Call) (heap labels : List ℕ) (r : Called) : Type 0 where
@@ -55,8 +56,8 @@ Promised rows cols heap labels floor k heap′ labels′ r = (m : Model) → Kee
 -- a checked rectangle, the words of a fresh heap, and no row has a label
 pub record Fresh (rows : List (List ℕ)) (cols : ℕ) (heap labels : List ℕ) : Type 0 where
   pub checked : Checked rows 0 cols
-  pub heap-is : heap ≡ replicate 74 0
-  pub labels-is : labels ≡ replicate 24 unreached
+  pub heap-is : heap ≡ replicate (heapWords rowPlaces) 0
+  pub labels-is : labels ≡ replicate maxSide unreached
 
 -- the trace of calls on the lent rows
 abbrev pub traceOf : List (List ℕ) → ℕ → List Call → Trace
@@ -77,10 +78,10 @@ pub record Agrees (rows : List (List ℕ)) (cols : ℕ) (ks : List Call) (heap l
   -- each extraction answers none exactly if no interval is left where its turn comes, else the least that is left
   pub least : AllExtractLeast (entry rows 0) (length rows) cols fresh ks (traceOf rows cols ks .answers)
 
--- What `run_calls` promises of the calls ks: the answers stand at the front of their buffer, three numbers each, and the rest is as `before`.
+-- What `run_calls` promises of the calls ks: the answers stand at the front of their buffer, and the rest is as `before`.
 pub record Ran (rows : List (List ℕ)) (cols : ℕ) (ks : List Call) (heap labels before answers : List ℕ) (inserted removed : ℕ) : Type 0 where
   pub agrees : Agrees rows cols ks heap labels inserted removed
-  pub answers-are : answers ≡ flatMap answerNumbers (traceOf rows cols ks .answers) ++ drop (3 * length ks) before
+  pub answers-are : answers ≡ flatMap answerNumbers (traceOf rows cols ks .answers) ++ drop (answerSize * length ks) before
 
 -- ---- any chain of calls
 

@@ -11,7 +11,7 @@ use Rattle.heap_laws.specs.Answers.{trace-each, trace-allowed, trace-extraction
 use Rattle.heap_laws.specs.HeapTheorems.{intervals-once, inserted-removed-kept}
 use Rattle.engine.specs.Promises.Entries.{PlainSession}
 use Rattle.engine.specs.Session.Judged.{accepted}
-use Rattle.engine.specs.Session.Threes.{answers-back}
+use Rattle.engine.specs.Session.Fronts.{answers-back}
 use Rattle.engine.specs.Session.Traces.{length-callsOf}
 
 module _ (rows cols count : ℕ) (lengths calls answers₀ intervals₀ : List ℕ) where
@@ -33,7 +33,7 @@ module _ (rows cols count : ℕ) (lengths calls answers₀ intervals₀ : List �
       go : Equal (judgeSession rows cols count lengths calls answers₀ intervals₀) 0 → PlainSession rows cols count lengths calls r answers after
       go (differ t q) = absurd (q (sym (ap (λ (x : AfterSession). x .answer .number) (rw t at e)) ∙ done))
       go (equal t q) =
-          let g = accepted rows cols count lengths calls answers₀ intervals₀ _ refl q in
+          let g = accepted rows cols count lengths calls answers₀ intervals₀ (sym q) in
           let a = ap (λ (x : AfterSession). x .answer) (rw t at e) in
           let s : answersIn answers count ≡ trace (rectangleOf lengths) rows cols ks .answers = rw (ap (λ (x : AfterSession). x .answers) (rw t at e)) answers-are in
           record {
