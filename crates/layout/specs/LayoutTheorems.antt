@@ -23,6 +23,7 @@ use Rattle.definitions.specs.Labelling.{placeOf}
 use Rattle.definitions.specs.Judgement.{pieceAt, piecesOf}
 use Rattle.basics.specs.Lists.{Different}
 use Rattle.monge.specs.Matrix.{at}
+use Rattle.layout.specs.HeapWords.{heapWords}
 use Rattle.layout.specs.Layout.{sizeAt, matrixOf, placeNumber, placesOf, partsOf, slotIn, rowIn, colIn, colsIn, lastIn, rowCountIn, maxBlocks, maxWords, placementsOf, firstsOf, tablesOf, placeIn, firstIn, sizeIn, vertexIn, piecesIn}
 use Rattle.layout.specs.Placements.{length-upTo, blocks-few}
 use Rattle.layout.specs.Numbering.{Fits, noWindow, first-is, firsts-are, Numbered, numbered}
@@ -65,8 +66,8 @@ module _ (p : ℕ) (sizes vertices lengths : List ℕ) (fits : Fits p sizes vert
 
   -- The words of two heaps do not meet.
   pub words-apart : (b c : ℕ) → b < length (blocks (piecesOf p sizes vertices lengths)) → c < length (blocks (piecesOf p sizes vertices lengths)) → b ≢ c
-      → (slotIn (partsOf p sizes) b + (2 + 3 * colsIn (partsOf p sizes) b) ≤ slotIn (partsOf p sizes) c)
-      ⊎ (slotIn (partsOf p sizes) c + (2 + 3 * colsIn (partsOf p sizes) c) ≤ slotIn (partsOf p sizes) b)
+      → (slotIn (partsOf p sizes) b + heapWords (colsIn (partsOf p sizes) b) ≤ slotIn (partsOf p sizes) c)
+      ⊎ (slotIn (partsOf p sizes) c + heapWords (colsIn (partsOf p sizes) c) ≤ slotIn (partsOf p sizes) b)
   words-apart b c l r q = slots-apart p sizes b c (omega (arith, block-count p sizes vertices lengths fits)) (omega (arith, block-count p sizes vertices lengths fits)) q
 
   module _ (b : ℕ) (l : b < length (blocks (piecesOf p sizes vertices lengths))) where
@@ -74,7 +75,7 @@ module _ (p : ℕ) (sizes vertices lengths : List ℕ) (fits : Fits p sizes vert
     number : b < length (placementsOf p sizes)
     number = omega (arith, block-count p sizes vertices lengths fits)
 
-    pub words-end : slotIn (partsOf p sizes) b + (2 + 3 * colsIn (partsOf p sizes) b) ≤ maxWords
+    pub words-end : slotIn (partsOf p sizes) b + heapWords (colsIn (partsOf p sizes) b) ≤ maxWords
     words-end = slots-end p sizes b number
 
     -- ---- the window of the matrix

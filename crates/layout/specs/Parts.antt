@@ -29,7 +29,8 @@ use Rattle.monge.specs.Copies.{block-entry}
 use Rattle.monge.specs.Matrix.{at, reversedRow, reversed, rowsIn}
 use Rattle.basics.specs.Sequences.{getD-each, length-upFrom, map-at}
 use Rattle.basics.specs.Pieces.{block-rows, block-cols, row-vertex, col-vertex}
-use Rattle.layout.specs.Layout.{sizeAt, matrixRow, matrixOf, Placement, place, placementsOf, words, wordsOf, rowOf, colOf, lastOf, numbers, numbersFrom, partNumbers, partPlaces, maxWords, partsOf, slotIn, rowIn, colIn, colsIn, lastIn, rowCountIn, blocksUpTo}
+use Rattle.layout.specs.HeapWords.{heapWords}
+use Rattle.layout.specs.Layout.{sizeAt, matrixRow, matrixOf, Placement, place, placementsOf, words, wordsOf, rowOf, colOf, lastOf, numbers, numbersFrom, partNumbers, partPlaces, pieceWords, maxWords, partsOf, slotIn, rowIn, colIn, colsIn, lastIn, rowCountIn, blocksUpTo}
 use Rattle.layout.specs.Numbers.{length-numbers, words-append}
 use Rattle.layout.specs.Placements.{size-small, length-upTo, blocks-few, length-windowsOf, words-few}
 use Rattle.layout.specs.Numbering.{Fits, noWindow, noPlacement, size-is, blockAt, blocks-are, number-in, placement-at, numbered}
@@ -130,26 +131,26 @@ module _ (xs : List Placement) where
       rw e (omega (arith, words-next b r, words-rise (suc b) (c - suc b)))
 
 module _ (p : ℕ) (sizes : List ℕ) where
-  pub slots-rise : (b c : ℕ) → b < c → c < length (placementsOf p sizes) → slotIn (partsOf p sizes) b + (2 + 3 * colsIn (partsOf p sizes) b) ≤ slotIn (partsOf p sizes) c
+  pub slots-rise : (b c : ℕ) → b < c → c < length (placementsOf p sizes) → slotIn (partsOf p sizes) b + heapWords (colsIn (partsOf p sizes) b) ≤ slotIn (partsOf p sizes) c
   slots-rise b c l r =
       let h : b < length (placementsOf p sizes) = omega arith in
       rw (slot-is p sizes b h, slot-is p sizes c r, cols-is p sizes b h) (words-below (placementsOf p sizes) b c l h)
 
   pub slots-apart : (b c : ℕ) → b < length (placementsOf p sizes) → c < length (placementsOf p sizes) → b ≢ c
-      → (slotIn (partsOf p sizes) b + (2 + 3 * colsIn (partsOf p sizes) b) ≤ slotIn (partsOf p sizes) c)
-      ⊎ (slotIn (partsOf p sizes) c + (2 + 3 * colsIn (partsOf p sizes) c) ≤ slotIn (partsOf p sizes) b)
+      → (slotIn (partsOf p sizes) b + heapWords (colsIn (partsOf p sizes) b) ≤ slotIn (partsOf p sizes) c)
+      ⊎ (slotIn (partsOf p sizes) c + heapWords (colsIn (partsOf p sizes) c) ≤ slotIn (partsOf p sizes) b)
   slots-apart b c l r q = go (split-at b c)
     where
-      go : (b < c) ⊎ (c ≤ b) → (slotIn (partsOf p sizes) b + (2 + 3 * colsIn (partsOf p sizes) b) ≤ slotIn (partsOf p sizes) c)
-          ⊎ (slotIn (partsOf p sizes) c + (2 + 3 * colsIn (partsOf p sizes) c) ≤ slotIn (partsOf p sizes) b)
+      go : (b < c) ⊎ (c ≤ b) → (slotIn (partsOf p sizes) b + heapWords (colsIn (partsOf p sizes) b) ≤ slotIn (partsOf p sizes) c)
+          ⊎ (slotIn (partsOf p sizes) c + heapWords (colsIn (partsOf p sizes) c) ≤ slotIn (partsOf p sizes) b)
       go (inl h) = inl (slots-rise b c h r)
       go (inr h) = inr (slots-rise c b (omega arith) l)
 
-  pub slots-end : (b : ℕ) → b < length (placementsOf p sizes) → slotIn (partsOf p sizes) b + (2 + 3 * colsIn (partsOf p sizes) b) ≤ maxWords
+  pub slots-end : (b : ℕ) → b < length (placementsOf p sizes) → slotIn (partsOf p sizes) b + heapWords (colsIn (partsOf p sizes) b) ≤ maxWords
   unfolding placementsOf
   slots-end b l =
       let xs = placementsOf p sizes in
-      let few : wordsOf xs ≤ 428 * maxPieces = words-few p sizes maxPieces in
+      let few : wordsOf xs ≤ pieceWords * maxPieces = words-few p sizes maxPieces in
       let all : wordsOf (take (length xs) xs) ≤ wordsOf xs = rw (take-length xs) (le-refl (wordsOf xs)) in
       rw (slot-is p sizes b l, cols-is p sizes b l) (omega (arith, few, all, words-below xs b (length xs) l l))
 
