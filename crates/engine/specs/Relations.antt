@@ -55,3 +55,41 @@
 --   Key Won Played        the key of a block's best; a word is the lesser of the two below it; each word is
 --   Climbing Decreasing   every word is right but perhaps one; and that one once the new key is let in
 --   AtLevel               where a climb of all levels stands
+--
+-- A session: its buffers against the definition's trace (Promises/Entries, Promises/Session, Session/Whole, Session/Traces, Session/Judged)
+--   PlainSession          what an accepted session returns and leaves, in plain terms
+--   ServeNeeds Leaves     a checked rectangle and buffers that hold its calls; counts, answers and intervals are those of the trace
+--   Ran                   what `run_calls` leaves: words and counts agree with the trace, and the answers stand at the front of their buffer
+--   RunCallsKeeps         the first k calls are a chain, and their answers stand in the buffer
+--   Chain Follows         calls one after the other; what is left agrees with the trace of a chain's calls
+--   Agrees                words, labels and counts are those that given calls leave
+--   Promised Steps        what one call leaves, for every model that was held; for one model
+--   SessionHolds Fresh    words, labels and floor are those of a model; those that the first call is lent
+--   Accepted Sizes Sides  what a session that is not turned away may rely on; its buffers, its numbers
+--   Front                 so many numbers at each of the first places of a buffer, the rest as it was
+--
+-- The heap of one block: its words against the model (Promises/Heap, Heap/Calls, Heap/Least, Heap/Best, Heap/Holds)
+--   Checked Holds HoldsSome    the block that is lent is checked; the words hold a given model of it; some model
+--   ActivateGiven ActivateNeeds Leaves    the model is held, and the activation is not refused; for some model; the next model is held, for every model
+--   MinExtracted ExtractMinLeaves    the column of least sum is extracted and answered; for every model
+--   Becomes               the words hold the next model, and so many intervals are inserted and removed
+--   LeastLeaves Keeps, LeastInLeaves    the lowest column of least sum; of the intervals so far; of one interval and what was found before
+--   IsBest                the lowest column of least length on a stretch of a row
+--   InItsInterval         the column that was found lies in the interval at its place
+--   Owned Where           the parent and the sum of a column of an interval; a column lies in an interval, or nobody has it
+--
+-- The columns that a new row wins (Heap/Search, Heap/Bisect)
+--   SearchNeeds Leaves    what the search may rely on; the intervals that meet the won columns, and those columns
+--   TurnLeaves EndOfLeaves     the column at which a test begins to hold; one past the last column before it
+--   FirstYesNeeds Between      a question whose answers do not fall back; where they turn to yes
+--   Asked                 a number that the question may be asked of
+--   Laid In               the intervals lie in order and their sums fit; a column is one of an interval's
+--
+-- The words (Heap/Clear, Heap/Words)
+--   CutNeeds Leaves       a column of an interval; the interval gives way to its rests
+--   ClearLeaves           the same of some columns and the intervals that meet them, with a gap between the rests
+--   ReplaceNeeds Leaves   some intervals give way to two rests
+--   Meets Room            the intervals that meet some columns; the words have room for what takes their place
+--   PutFirstLeaves PutRestLeaves PutLeaves    one interval with all columns; what is left of an interval; an interval
+--   ShiftLeaves Keeps     intervals are moved to other places; some are still to be moved
+--   Outside Word          words that agree but for some intervals; a word that is read
