@@ -42,7 +42,7 @@ blockNo p sizes vertices lengths b = getD (blocks (piecesOf p sizes vertices len
 module _ (p : ℕ) (sizes vertices lengths : List ℕ) (fits : Fits p sizes vertices lengths) where
   pub the-count : length (blocks (piecesOf p sizes vertices lengths)) ≤ maxBlocks
   unfolding placementsOf
-  the-count = omega (arith, block-count p sizes vertices lengths fits, length-upTo p sizes 16, blocks-few p sizes 16)
+  the-count = omega (arith, block-count p sizes vertices lengths fits, length-upTo p sizes maxPieces, blocks-few p sizes maxPieces)
 
   -- The first blocks: for piece d how many blocks the pieces before it have.
   pub first-block : (d : ℕ) → d < p → getD (firstsOf p sizes) d 0 ≡ length (blocks (take d (piecesOf p sizes vertices lengths)))

@@ -122,9 +122,9 @@ up-to m (suc d) = let e : suc d + m ≡ suc (d + m) = omega arith in rw (e, up-t
 pub split-of : (m i : ℕ) → 1 ≤ m → m ≤ maxSize → i < pred m → getD allSplits (firstSplit m + i) noSplit ≡ getD (splitsOf m) i noSplit
 unfolding allSplits splitsUpTo
 split-of (suc m) i l h k =
-    let e : 24 ≡ (23 - m) + suc m = omega arith in
-    let f : splitsUpTo 24 ≡ splitsUpTo (suc m) ++ after (suc m) (23 - m) = ap splitsUpTo e ∙ up-to (suc m) (23 - m) in
-    rw (first-is (suc m) l h, f) (step m i (after (suc m) (23 - m)) (omega (arith, size-count (suc m) h)))
+    let e : maxSize ≡ (maxSize - 1 - m) + suc m = omega arith in
+    let f : splitsUpTo maxSize ≡ splitsUpTo (suc m) ++ after (suc m) (maxSize - 1 - m) = ap splitsUpTo e ∙ up-to (suc m) (maxSize - 1 - m) in
+    rw (first-is (suc m) l h, f) (step m i (after (suc m) (maxSize - 1 - m)) (omega (arith, size-count (suc m) h)))
   where
     step : (m i : ℕ) (rest : List Split) → i < length (splitsOf (suc m))
         → getD (splitsUpTo (suc m) ++ rest) (length (splitsUpTo m) + i) noSplit ≡ getD (splitsOf (suc m)) i noSplit

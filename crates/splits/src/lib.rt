@@ -2,6 +2,7 @@
 ghost use mathlib.Core.Path.{_≡_};
 ghost use Rattle.definitions.specs.Blocks.{allSplits};
 ghost use Rattle.splits.specs.Table.{flattened, splitIn, firstSplit};
+use bounds::Network;
 
 // A stretch of places, `first` up to `end`, cut at `middle`.
 pub struct Split {
@@ -12,7 +13,7 @@ pub struct Split {
 
 // First place, middle and end of each split, one group of lines for each size from 2 on; a piece of one place has none.
 #[rattlefmt::skip]
-const SPLITS: [u8; 828] = [
+const SPLITS: [u8; PLACES] = [
     0, 1, 2,  // 2
     0, 1, 3,  1, 2, 3,  // 3
     0, 2, 4,  0, 1, 2,  2, 3, 4,  // 4
@@ -60,13 +61,13 @@ const SPLITS: [u8; 828] = [
     15, 16, 18,  16, 17, 18,  18, 21, 24,  18, 19, 21,  19, 20, 21,  21, 22, 24,  22, 23, 24,  // 24
 ];
 
-// How many splits the list has, and the largest size.
-const COUNT: usize = 276;
+// How many splits the list has: m - 1 for each size m. Each is three numbers.
+const COUNT: usize = Network::ROW_PLACES * (Network::ROW_PLACES - 1) / 2;
 
-const MAX_SIZE: usize = 24;
+const PLACES: usize = 3 * COUNT;
 
 // The list itself. A constant is copied at each use: a caller copies it once and lends it to `split_in`.
-pub fn table() -> [u8; 828]
+pub fn table() -> [u8; PLACES]
     ensures { λ r. ⌜ r ≡ flattened allSplits ⌝ }
 {
     SPLITS
@@ -98,7 +99,7 @@ pub fn first_split(m: usize) -> usize
     if m < 1 {
         return COUNT;
     }
-    if m > MAX_SIZE {
+    if m > Network::ROW_PLACES {
         return COUNT;
     }
     let k = m - 1;

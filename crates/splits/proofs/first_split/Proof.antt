@@ -4,6 +4,7 @@ use Prim.Native.Nat.{ℕ, zero, suc, _-_, _*_, _≤_}
 use native.Mathlib.Nat.{mul-le-mul}
 use native.Mathlib.Omega.{arith}
 use borrow.Author.Tests.{le-leb, lt-leb}
+use Rattle.definitions.specs.Limits.{maxSize}
 use Rattle.definitions.specs.Lists.{within}
 use Rattle.splits.specs.Table.{firstSplit}
 use Rattle.splits.specs.Halving.{counted, first-split}
@@ -20,10 +21,10 @@ returns c = simp (lt-leb 1 _ (c .if1 .taken), counted)
 
 returns-2 : tie.Need-returns-2
 unfolding firstSplit within
-returns-2 c = simp (le-leb 1 _ (c .before .if1 .left), lt-leb _ 24 (c .if2 .taken), counted)
+returns-2 c = simp (le-leb 1 _ (c .before .if1 .left), lt-leb _ maxSize (c .if2 .taken), counted)
 
 mul-result : tie.Need-mul-result
-mul-result c = let k = c .before .before .args .m - 1 in omega (arith, mul-le-mul {n₁ = k} {m₁ = k} {n₂ = 23} {m₂ = 23} (omega arith) (omega arith))
+mul-result c = let k = c .before .before .args .m - 1 in omega (arith, mul-le-mul {n₁ = k} {m₁ = k} {n₂ = maxSize - 1} {m₂ = maxSize - 1} (omega arith) (omega arith))
 
 sub-result : tie.Need-sub-result
 sub-result c = square _
