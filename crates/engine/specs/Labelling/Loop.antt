@@ -28,7 +28,6 @@ use Rattle.labelling_laws.specs.Loop.{start-is, advance-old, advance-new, least
 use Rattle.labelling_laws.specs.Ends.{start-extracts, step-extracts, goes, finished, reached-few, labels-short, extractions-bound, insertions-bound, welcome-start, welcome-step}
 use Rattle.engine.specs.declared.labelling.Progress.{Progress}
 use Rattle.engine.specs.declared.labelling.Progress.the-variants as progress
-use Rattle.engine.specs.declared.labelling.Step.{Step}
 use Rattle.engine.specs.declared.labelling.Step.the-variants as step
 use Rattle.engine.specs.Labelling.State.{Tables, Arrays, arrays, changed, Parted, Running, callAt}
 use Rattle.engine.specs.Labelling.Counts.{activationInserts, extractionInserts, blockInserts, maxInserted, maxExtracted}
