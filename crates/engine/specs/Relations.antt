@@ -55,3 +55,7 @@
 --   Key Won Played        the key of a block's best; a word is the lesser of the two below it; each word is
 --   Climbing Decreasing   every word is right but perhaps one; and that one once the new key is let in
 --   AtLevel               where a climb of all levels stands
+--
+-- The heap of one block (Promises/Heap)
+--   Holds                 the words, with the block's window and the labels of its rows, hold a model
+--   Checked               the window is one of a checked block
