@@ -197,6 +197,8 @@ module _ {s : Store} {source n : ℕ} {qs : List Piece} (mapped : Mapped (s .arr
 
       vertex-given : SettleGiven extractedArrays v z qs after
       vertex-given = record {
+        low = known .0;
+        high = known .1;
         mapped = mapped;
         running = t .called .kept;
         welcome = rw (t .vertex-is) at (welcome-step bs n source setting k i z c first (t .here) (rw (t .vertex-is) unsettled));
@@ -362,11 +364,17 @@ module _ {s : Store} {source n : ℕ} {qs : List Piece} (given : LabelAllGiven s
   abbrev fresh : List BlockState
   fresh = map freshBlock (blocks qs)
 
-  source-given : SettleGiven (s .arrays) source 0 qs fresh
-  source-given = record { mapped = given .mapped; running = given .running; welcome = welcome-start (blocks qs) n source (given .setting) }
-
   source-in : (1 ≤ source) × (source ≤ maxVertices)
   source-in = (given .setting .low, omega (arith, given .setting .high, given .setting .small))
+
+  source-given : SettleGiven (s .arrays) source 0 qs fresh
+  source-given = record {
+    low = source-in .0;
+    high = source-in .1;
+    mapped = given .mapped;
+    running = given .running;
+    welcome = welcome-start (blocks qs) n source (given .setting);
+  }
 
   source-done : (rowLabels words tree : List ℕ) (m : ℕ) → SettleLeaves (s .arrays) (changed (s .arrays) rowLabels words tree) source 0 m
       → AfterSteps (changedStore s rowLabels words tree (set (s .labels) (source - 1) 0)) (blocks qs) source 0 1 m
