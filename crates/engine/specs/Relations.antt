@@ -51,7 +51,7 @@
 --
 -- The tournament (Tree/Words, Tree/Climb)
 --   IsTournament          the words hold the best of each block
---   WinnerIs KeyChanged   the lowest block of least sum; one block has another key
+--   WinnerLeaves KeyChanged    the lowest block of least sum; one block has another key
 --   Key Won Played        the key of a block's best; a word is the lesser of the two below it; each word is
 --   Climbing Decreasing   every word is right but perhaps one; and that one once the new key is let in
 --   AtLevel               where a climb of all levels stands

@@ -2,8 +2,8 @@
 --   parts-count .. tables-count      how long the tables are
 --   in-parts NumbersSame numbers-same    the numbers of a block
 --   place-in first-in size-in vertex-in pieces-in    the others
-use mathlib.Core.Path.{_≡_, sym, ap, _∙_}
-use mathlib.Core.List.{List, [], _∷_, _++_, map}
+use mathlib.Core.Path.{_≡_, _∙_}
+use mathlib.Core.List.{List, [], _∷_, _++_}
 use Prim.Native.Nat.{ℕ, _+_, _-_, _*_, _≤_, _<_}
 use native.Mathlib.Omega.{arith}
 use lib.ListN.{getD, length, length-append, length-map, List·getD-append}
@@ -11,7 +11,7 @@ use lib.Seq.{getD-append-add}
 use Rattle.definitions.specs.Limits.{maxVertices, maxPieces, vertexPlaces}
 use Rattle.definitions.specs.Lists.{upFrom}
 use Rattle.basics.specs.Sequences.{length-upFrom, getD-each}
-use Rattle.layout.specs.Layout.{sizeAt, maxBlocks, partNumbers, slotIn, rowIn, colIn, colsIn, lastIn, rowCountIn, partPlaces, placeCount, placeNumber, partsOf, placesOf, blocksUpTo, firstsOf, sizesOf, verticesOf, placesAt, firstsAt, sizesAt, verticesAt, piecesAt, tableCount, tablesOf, placeIn, firstIn, sizeIn, vertexIn, piecesIn}
+use Rattle.layout.specs.Layout.{sizeAt, maxBlocks, partNumbers, slotIn, rowIn, colIn, colsIn, lastIn, rowCountIn, partPlaces, placeCount, placeNumber, partsOf, placesOf, blocksUpTo, firstsOf, sizesOf, verticesOf, placesAt, firstsAt, sizesAt, verticesAt, tableCount, tablesOf, placeIn, firstIn, sizeIn, vertexIn, piecesIn}
 use Rattle.layout.specs.Places.{places-long}
 use Rattle.layout.specs.Parts.{parts-long}
 

@@ -8,8 +8,8 @@ use Prim.Native.Nat.{ℕ, zero, suc, pred, _+_, _-_, _*_, _≤_, _<_}
 use native.Mathlib.Nat.{le-refl}
 use native.Mathlib.Omega.{arith}
 use lib.ListN.{getD, length, take, length-map}
-use lib.Seq.{take-length, getD-take}
-use Rattle.definitions.specs.Limits.{maxVertices, maxPieces, maxSize, sizePlaces, vertexPlaces, rowPlaces}
+use lib.Seq.{take-length}
+use Rattle.definitions.specs.Limits.{maxVertices, maxPieces, maxSize, vertexPlaces, rowPlaces}
 use Rattle.definitions.specs.Network.{Piece, sizeOf, noPiece}
 use Rattle.definitions.specs.Blocks.{windowsOf, Block, noBlock, blockOf, blocks}
 use Rattle.definitions.specs.Judgement.{pieceAt, piecesOf}

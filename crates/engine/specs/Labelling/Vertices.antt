@@ -2,7 +2,7 @@
 --   SettleGiven SettleNeeds VertexActivated SettleLeaves    what the function needs and leaves
 --   PiecesDone                                 the pieces before piece d are done, for given states
 --   SettleKeeps settle-begun settle-long settle-done    the same for any states that the arrays hold
---   tables-long place-in                       the ranges of the numbers that are read
+--   vertex-in tables-long place-in             the ranges of the numbers that are read
 --   settle-absent place-needs settle-more      a piece that does not have the vertex; one that has it
 use mathlib.Core.Path.{_≡_, refl, sym, ap, _∙_}
 use mathlib.Core.Bool.{false}
@@ -23,7 +23,7 @@ use Rattle.basics.specs.Tests.{split-at}
 use Rattle.basics.specs.Lists.{every-at}
 use Rattle.splits.specs.Windows.{Inside, windows-inside}
 use Rattle.basics.specs.Pieces.{block-rows}
-use Rattle.layout.specs.Layout.{rowIn, rowCountIn, maxBlocks, tableCount, placeIn, firstIn, sizeIn, piecesIn}
+use Rattle.layout.specs.Layout.{rowIn, rowCountIn, tableCount, placeIn, firstIn, sizeIn, piecesIn}
 use Rattle.layout.specs.Placements.{length-windowsOf}
 use Rattle.layout.specs.Numbering.{noWindow}
 use Rattle.labelling_laws.specs.Places.{place-of}
@@ -38,8 +38,10 @@ use Rattle.engine.specs.Labelling.Mapped.{firstOf, MappedPiece, Mapped, 
 use Rattle.engine.specs.Labelling.Settling.{PieceDone, piece-absent, Partly, partly-begun, partly-more, partly-all}
 use Rattle.engine.specs.Labelling.Activations.{Spot, SpotReady, ActivatePlaceNeeds, ActivatePlaceLeaves}
 
--- the tables are those of these pieces, the arrays hold these states, and no activation of v with the label l is refused
+-- the tables are those of these pieces, the arrays hold these states, and no activation of the vertex v with the label l is refused
 pub record SettleGiven (a : Arrays) (v l : ℕ) (qs : List Piece) (ss : List BlockState) : Type 0 where
+  pub low : 1 ≤ v
+  pub high : v ≤ maxVertices
   pub mapped : Mapped (a .heaps .tables) qs
   pub running : Running a (blocks qs) ss
   pub welcome : Every (Welcome v l) ss
@@ -85,7 +87,7 @@ rows-before {t = t} qs h (suc d) l b m = ⊎-elim (λ (a : b < firstOf qs d). om
 
 -- ---- one piece
 
-module _ {a : Arrays} {v l : ℕ} {qs : List Piece} {ss : List BlockState} (low : 1 ≤ v) (high : v ≤ maxVertices) (given : SettleGiven a v l qs ss) where
+module _ {a : Arrays} {v l : ℕ} {qs : List Piece} {ss : List BlockState} (given : SettleGiven a v l qs ss) where
   abbrev t : Tables
   t = a .heaps .tables
 
@@ -129,11 +131,11 @@ module _ {a : Arrays} {v l : ℕ} {qs : List Piece} {ss : List BlockState} (low 
       piece-missing missing =
           let e : n + 0 ≡ n = omega arith in
           rw e at (more (Running now (blocks qs)) n (Running now (blocks qs)) 0 x (x .states) (x .kept)
-          (piece-absent q (firstOf qs d) v l (x .states) (piece .small) are (λ i a z. omega (arith, piece .found v i low high a z))))
+          (piece-absent q (firstOf qs d) v l (x .states) (piece .small) are (λ i a z. omega (arith, piece .found v i (given .low) (given .high) a z))))
 
       module _ (i : ℕ) (here : placeIn numbers v d ≡ suc i) where
         there : (i < sizeOf q) × (getD (q .vertices) i 0 ≡ v)
-        there = piece .there v i low high here
+        there = piece .there v i (given .low) (given .high) here
 
         abbrev spot : Spot
         spot = record { piece = q; base = rowPlaces * d; vertex = v; label = l }
@@ -194,7 +196,7 @@ pub record SettleKeeps (a : Arrays) (rowLabels words tree : List ℕ) (v l d ins
   pub count : inserted ≤ placeInserts * d
   pub before : (qs : List Piece) (ss : List BlockState) → SettleGiven a v l qs ss → PiecesDone (Running (changed a rowLabels words tree) (blocks qs)) qs v l ss d inserted
 
-module _ {a : Arrays} {v l : ℕ} (low : 1 ≤ v) (high : v ≤ maxVertices) (needs : SettleNeeds a v l) where
+module _ {a : Arrays} {v l : ℕ} (needs : SettleNeeds a v l) where
   abbrev numbers′ : List ℕ
   numbers′ = a .heaps .tables .numbers
 
@@ -202,7 +204,10 @@ module _ {a : Arrays} {v l : ℕ} (low : 1 ≤ v) (high : v ≤ maxVertices) (ne
   map-given = needs .given .mapped
 
   pub settle-begun : SettleKeeps a (a .heaps .rowLabels) (a .heaps .words) (a .tree) v l 0 0
-  settle-begun = record { upTo = omega arith; count = omega arith; before = λ qs ss g. pieces-begun low high g }
+  settle-begun = record { upTo = omega arith; count = omega arith; before = λ qs ss g. pieces-begun g }
+
+  pub vertex-in : (1 ≤ v) × (v ≤ maxVertices)
+  vertex-in = (needs .given .low, needs .given .high)
 
   -- how long the tables are, and how many pieces there are
   pub tables-long : (piecesIn numbers′ ≤ maxPieces) × (length numbers′ ≡ tableCount)
@@ -220,7 +225,7 @@ module _ {a : Arrays} {v l : ℕ} (low : 1 ≤ v) (high : v ≤ maxVertices) (ne
 
     pub settle-done : piecesIn numbers′ ≤ d → SettleLeaves a (changed a rowLabels words tree) v l n
     settle-done end qs ss g =
-        pieces-all low high g (Running (changed a rowLabels words tree) (blocks qs)) d n (omega (arith, keeps .upTo, g .mapped .count)) (keeps .before qs ss g)
+        pieces-all g (Running (changed a rowLabels words tree) (blocks qs)) d n (omega (arith, keeps .upTo, g .mapped .count)) (keeps .before qs ss g)
 
     module _ (less : d < piecesIn numbers′) where
       in-pieces : (qs : List Piece) → Mapped (a .heaps .tables) qs → d < length qs
@@ -230,7 +235,7 @@ module _ {a : Arrays} {v l : ℕ} (low : 1 ≤ v) (high : v ≤ maxVertices) (ne
       settle-absent missing = record {
         upTo = omega arith;
         count = omega (arith, keeps .count);
-        before = λ qs ss g. piece-missing low high g d (in-pieces qs (g .mapped)) rowLabels words tree n (keeps .before qs ss g) missing;
+        before = λ qs ss g. piece-missing g d (in-pieces qs (g .mapped)) rowLabels words tree n (keeps .before qs ss g) missing;
       }
 
       module _ (some : 0 < placeIn numbers′ v d) where
@@ -244,10 +249,9 @@ module _ {a : Arrays} {v l : ℕ} (low : 1 ≤ v) (high : v ≤ maxVertices) (ne
         abbrev here-is : MappedPiece (a .heaps .tables) (blocks (needs .pieces)) (firstOf (needs .pieces) d) d (getD (needs .pieces) d noPiece)
         here-is = map-given .each d (in-pieces (needs .pieces) map-given)
 
-        pub place-in : (firstIn numbers′ d ≤ maxBlocks) × (sizeIn numbers′ d ≤ maxSize) × (i < sizeIn numbers′ d) × (rowPlaces * d + i < length rowLabels)
+        pub place-in : (sizeIn numbers′ d ≤ maxSize) × (i < sizeIn numbers′ d) × (rowPlaces * d + i < length rowLabels)
         place-in =
-            let r = here-is .there v i low high here in (
-              omega (arith, map-given .firsts-are d (in-pieces (needs .pieces) map-given), here-is .blocks-in, needs .given .running .held .parted .few),
+            let r = here-is .there v i (needs .given .low) (needs .given .high) here in (
               omega (arith, here-is .size-is, here-is .small),
               omega (arith, here-is .size-is, r .0),
               omega (arith, now′ .kept .held .labels-are, here-is .small, r .0, map-given .few, map-given .count),
@@ -261,8 +265,8 @@ module _ {a : Arrays} {v l : ℕ} (low : 1 ≤ v) (high : v ≤ maxVertices) (ne
           blocks = blocks (needs .pieces);
           states = now′ .states;
           spot = _;
-          running = stored low high (needs .given) d (in-pieces (needs .pieces) map-given) rowLabels words tree n now′ i here;
-          ready = ready low high (needs .given) d (in-pieces (needs .pieces) map-given) rowLabels words tree n now′ i here;
+          running = stored (needs .given) d (in-pieces (needs .pieces) map-given) rowLabels words tree n now′ i here;
+          ready = ready (needs .given) d (in-pieces (needs .pieces) map-given) rowLabels words tree n now′ i here;
         })
 
         pub settle-more : (words′ tree′ : List ℕ) (m : ℕ) → m ≤ placeInserts
@@ -277,7 +281,7 @@ module _ {a : Arrays} {v l : ℕ} (low : 1 ≤ v) (high : v ≤ maxVertices) (ne
                 let b : ActivatePlaceLeaves asked (changed a (set rowLabels (rowPlaces * d + i) l) words′ tree′) (firstOf qs d) (sizeOf (getD qs d noPiece)) i m
                 = rw (g .mapped .firsts-are d r, g .mapped .each d r .size-is) at c in
                 let z = b (blocks qs) (y .states) (record { piece = getD qs d noPiece; base = rowPlaces * d; vertex = v; label = l })
-                (stored low high g d r rowLabels words tree n y i here)
-                (ready low high g d r rowLabels words tree n y i here) in
-                more low high g d r (Running (changed a rowLabels words tree) (blocks qs)) n
+                (stored g d r rowLabels words tree n y i here)
+                (ready g d r rowLabels words tree n y i here) in
+                more g d r (Running (changed a rowLabels words tree) (blocks qs)) n
                 (Running (changed a (set rowLabels (rowPlaces * d + i) l) words′ tree′) (blocks qs)) m y (z .states) (z .kept) (z .done)

@@ -5,11 +5,10 @@ use Prim.Native.Nat.{ℕ, _+_, _-_, _≤_}
 use native.Mathlib.Omega.{arith}
 use borrow.Author.Needs.{needs}
 use lib.ListN.{length, set, take, drop, replicate, length-set, length-append}
-use Rattle.definitions.specs.Limits.{maxPieces, vertexPlaces}
 use Rattle.definitions.specs.Lists.{padded}
 use Rattle.basics.specs.Buffers.{set-padded}
 use Rattle.basics.specs.Lists.{length-padded}
-use Rattle.layout.specs.Layout.{partPlaces, placeCount, partsOf, placesOf, firstsOf, sizesOf, verticesOf, placesAt, firstsAt, sizesAt, verticesAt, piecesAt, tableCount, tablesOf}
+use Rattle.layout.specs.Layout.{partsOf, placesOf, firstsOf, sizesOf, verticesOf, placesAt, firstsAt, sizesAt, verticesAt, piecesAt, tableCount, tablesOf}
 use Rattle.layout.specs.Parts.{parts-long}
 use Rattle.layout.specs.Places.{places-long}
 use Rattle.layout.specs.Tables.{firsts-count, sizes-count, vertices-count}
