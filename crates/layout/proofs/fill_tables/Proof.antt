@@ -185,6 +185,7 @@ returns c =
 
 pub fill-tables-spec : {M : Type 1} → statement M
 fill-tables-spec =
-    tie.close (tie.spec (search needs) (search needs) part-fill-parts-end fill-parts-requires (search needs) (search needs) part-fill-places-end fill-places-requires
-    (search needs) (search needs) part-fill-firsts-end (λ c κs. search needs) (search needs) (search needs) part-fill-sizes-end (λ c κs. search needs)
-    (search needs) (search needs) part-fill-vertices-end (λ c κs. search needs) slice-write-tables same-length returns)
+    tie.close (tie.spec (λ c. search needs) (λ c. search needs) part-fill-parts-end fill-parts-requires (λ c. search needs)
+    (λ c. search needs) part-fill-places-end fill-places-requires (λ c. search needs) (λ c. search needs) part-fill-firsts-end
+    (λ c κs. search needs) (λ c. search needs) (λ c. search needs) part-fill-sizes-end (λ c κs. search needs) (λ c. search needs)
+    (λ c. search needs) part-fill-vertices-end (λ c κs. search needs) slice-write-tables same-length returns)

@@ -9,4 +9,5 @@ returns : tie.Need-returns
 returns c = sym (List·getD-eq-default (c .before .args .words .now) 0 (c .if1 .taken))
 
 pub word-at-spec : {M : Type 1} → statement M
-word-at-spec = tie.close (tie.spec returns (search needs) (search needs) (search needs))
+word-at-spec =
+    tie.close (tie.spec returns (λ c. search needs) (λ c. search needs) (λ c. search needs))

@@ -26,5 +26,5 @@ returns-2 c = rw (le-ltb _ _ (c .if1 .left))
 
 pub split-in-spec : {M : Type 1} → statement M
 split-in-spec =
-    tie.close (tie.spec (search needs) (search needs) cast-t10 (search needs) (search needs) (search needs) cast-t15 (search needs)
-    (search needs) (search needs) cast-t20 returns returns-2)
+    tie.close (tie.spec (λ c. search needs) (λ c. search needs) cast-t10 (λ c. search needs) (λ c. search needs) (λ c. search needs)
+    cast-t15 (λ c. search needs) (λ c. search needs) (λ c. search needs) cast-t20 returns returns-2)

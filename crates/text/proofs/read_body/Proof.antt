@@ -48,6 +48,6 @@ returns-4 c =
 
 pub read-body-spec : {M : Type 1} → statement M
 read-body-spec =
-    tie.close (tie.spec (search needs) (search needs) returns read-pieces-requires (search needs) (search needs) (search needs)
-    (search needs) returns-2 read-question-requires (search needs) (search needs) (search needs) (search needs) returns-3 (search needs)
-    (search needs) (search needs) returns-4)
+    tie.close (tie.spec (λ c κs. search needs) (λ c κs. search needs) returns read-pieces-requires (λ c κs. search needs)
+    (λ c. search needs) (λ c. search needs) (λ c. search needs) returns-2 read-question-requires (λ c κs. search needs) (λ c. search needs)
+    (λ c. search needs) (λ c. search needs) returns-3 (λ c. search needs) (λ c. search needs) (λ c. search needs) returns-4)

@@ -48,5 +48,6 @@ returns-2 c =
 
 pub read-fields-spec : {M : Type 1} → statement M
 read-fields-spec =
-    tie.close (tie.spec Inv-loop μ-loop loop-holds (search needs) (search needs) enum-told (search needs) returns (search needs)
-    (search needs) (search needs) (search needs) (search needs) loop-again (search needs) returns-2)
+    tie.close (tie.spec Inv-loop μ-loop loop-holds (λ c κs. search needs) (λ c. search needs) enum-told (λ c. search needs) returns
+    (λ c. search needs) (λ c. search needs) (λ c. search needs) (λ c. search needs) (λ c. search needs) loop-again (λ c. search needs)
+    returns-2)

@@ -9,4 +9,5 @@ unfolding lengthAt
 returns c = c .before .before .read-line .ensures
 
 pub read-lengths-spec : {M : Type 1} → statement M
-read-lengths-spec = tie.close (tie.spec (search needs) (search needs) returns)
+read-lengths-spec =
+    tie.close (tie.spec (λ c κs. search needs) (λ c. search needs) returns)

@@ -30,5 +30,5 @@ returns-4 c =
 
 pub read-line-spec : {M : Type 1} → statement M
 read-line-spec =
-    tie.close (tie.spec (search needs) (search needs) returns (search needs) add-end (search needs) returns-2 (search needs) (search needs)
-    returns-3 (search needs) returns-4)
+    tie.close (tie.spec (λ c κs. search needs) (λ c. search needs) returns (λ c. search needs) add-end (λ c. search needs) returns-2
+    (λ c. search needs) (λ c. search needs) returns-3 (λ c. search needs) returns-4)

@@ -62,6 +62,6 @@ returns-3 c =
 
 pub read-piece-spec : {M : Type 1} → statement M
 read-piece-spec =
-    tie.close (tie.spec (search needs) returns (search needs) read-sized-requires (search needs) (search needs) returns-2 (search needs)
-    slice-write-sizes (search needs) (search needs) (search needs) (search needs) (search needs) (search needs) mul-t20 add-t22
-    (search needs) (search needs) (search needs) returns-3)
+    tie.close (tie.spec (λ c κs. search needs) returns (λ c. search needs) read-sized-requires (λ c. search needs) (λ c. search needs)
+    returns-2 (λ c. search needs) slice-write-sizes (λ c. search needs) (λ c. search needs) (λ c. search needs) (λ c. search needs)
+    (λ c. search needs) (λ c. search needs) mul-t20 add-t22 (λ c. search needs) (λ c. search needs) (λ c. search needs) returns-3)

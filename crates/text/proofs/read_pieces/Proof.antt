@@ -51,5 +51,5 @@ returns-2 c =
 
 pub read-pieces-spec : {M : Type 1} → statement M
 read-pieces-spec =
-    tie.close (tie.spec Inv-loop μ-loop loop-holds read-piece-requires (search needs) (search needs) (search needs) returns (search needs)
-    (search needs) loop-again (search needs) (search needs) (search needs) returns-2)
+    tie.close (tie.spec Inv-loop μ-loop loop-holds read-piece-requires (λ c. search needs) (λ c. search needs) (λ c. search needs) returns
+    (λ c. search needs) (λ c. search needs) loop-again (λ c. search needs) (λ c. search needs) (λ c. search needs) returns-2)

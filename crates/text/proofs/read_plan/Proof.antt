@@ -21,5 +21,5 @@ returns-2 c =
 
 pub read-plan-spec : {M : Type 1} → statement M
 read-plan-spec =
-    tie.close (tie.spec (search needs) (search needs) (search needs) returns (search needs) (search needs) read-body-requires (search needs)
-    (search needs) (search needs) returns-2)
+    tie.close (tie.spec (λ c. search needs) (λ c κs. search needs) (λ c κs. search needs) returns (λ c. search needs) (λ c. search needs)
+    read-body-requires (λ c. search needs) (λ c. search needs) (λ c. search needs) returns-2)

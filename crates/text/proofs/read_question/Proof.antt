@@ -34,4 +34,5 @@ returns-4 c =
 
 pub read-question-spec : {M : Type 1} → statement M
 read-question-spec =
-    tie.close (tie.spec (search needs) (search needs) (search needs) returns (search needs) returns-2 (search needs) returns-3 returns-4)
+    tie.close (tie.spec (λ c. search needs) (λ c κs. search needs) (λ c. search needs) returns (λ c κs. search needs) returns-2
+    (λ c. search needs) returns-3 returns-4)

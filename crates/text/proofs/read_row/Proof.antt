@@ -12,4 +12,4 @@ returns-2 c = judged-then _ _ _ _ (c .before .before .before .before .before .re
 
 pub read-row-spec : {M : Type 1} → statement M
 read-row-spec =
-    tie.close (tie.spec (search needs) (search needs) returns (search needs) (search needs) returns-2)
+    tie.close (tie.spec (λ c κs. search needs) (λ c. search needs) returns (λ c κs. search needs) (λ c. search needs) returns-2)

@@ -57,6 +57,6 @@ returns-2 c =
 
 pub read-rows-spec : {M : Type 1} → statement M
 read-rows-spec =
-    tie.close (tie.spec Inv-loop μ-loop loop-holds (search needs) (search needs) (search needs) (search needs) (search needs) (search needs)
-    (search needs) same-length returns (search needs) (search needs) (search needs) (search needs) (search needs) loop-again
-    (λ c. search needs) returns-2)
+    tie.close (tie.spec Inv-loop μ-loop loop-holds (λ c. search needs) (λ c. search needs) (λ c. search needs) (λ c. search needs)
+    (λ c. search needs) (λ c. search needs) (λ c κs. search needs) same-length returns (λ c. search needs) (λ c. search needs)
+    (λ c. search needs) (λ c. search needs) (λ c. search needs) loop-again (λ c. search needs) returns-2)

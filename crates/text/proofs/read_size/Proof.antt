@@ -29,4 +29,4 @@ returns-2 c =
 
 pub read-size-spec : {M : Type 1} → statement M
 read-size-spec =
-    tie.close (tie.spec (search needs) (search needs) enum-told returns (search needs) returns-2)
+    tie.close (tie.spec (λ c κs. search needs) (λ c. search needs) enum-told returns (λ c κs. search needs) returns-2)

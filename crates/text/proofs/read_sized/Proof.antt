@@ -53,6 +53,7 @@ returns-2 c =
 
 pub read-sized-spec : {M : Type 1} → statement M
 read-sized-spec =
-    tie.close (tie.spec (search needs) (search needs) (search needs) (search needs) (search needs) (search needs) part-read-vertices-end
-    (search needs) (search needs) returns (search needs) (search needs) (search needs) (search needs) (search needs) (search needs)
-    (search needs) (search needs) (search needs) part-read-table-end read-table-requires (search needs) (search needs) returns-2)
+    tie.close (tie.spec (λ c. search needs) (λ c. search needs) (λ c. search needs) (λ c. search needs) (λ c. search needs)
+    (λ c. search needs) part-read-vertices-end (λ c κs. search needs) (λ c. search needs) returns (λ c. search needs) (λ c. search needs)
+    (λ c. search needs) (λ c. search needs) (λ c. search needs) (λ c. search needs) (λ c. search needs) (λ c. search needs)
+    (λ c. search needs) part-read-table-end read-table-requires (λ c. search needs) (λ c. search needs) returns-2)

@@ -20,4 +20,5 @@ returns-2 c =
 
 pub read-table-spec : {M : Type 1} → statement M
 read-table-spec =
-    tie.close (tie.spec (λ c κs. search needs) (search needs) returns (search needs) (search needs) (search needs) returns-2)
+    tie.close (tie.spec (λ c κs. search needs) (λ c. search needs) returns (λ c. search needs) (λ c κs. search needs) (λ c. search needs)
+    returns-2)

@@ -39,4 +39,5 @@ returns-3 c = c .tested2 .ensures ∙ rw (c .before .before .question2 .given .1
 
 pub answered-spec : {M : Type 1} → statement M
 answered-spec =
-    tie.close (tie.spec (search needs) parent-requires (search needs) last-requires tested-requires (search needs) tested-requires-2 returns returns-2 returns-3)
+    tie.close (tie.spec (λ c. search needs) parent-requires (λ c. search needs) last-requires tested-requires (λ c. search needs)
+    tested-requires-2 returns returns-2 returns-3)

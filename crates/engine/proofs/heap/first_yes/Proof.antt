@@ -44,4 +44,5 @@ returns c = between-done _ _ _ _ _ (c .loop-test .left) (c .before .loop .inv)
 
 pub first-yes-spec : {M : Type 1} → statement M
 first-yes-spec =
-    tie.close (tie.spec Inv-loop μ-loop loop-holds add-m answered-requires (search needs) loop-again add-a (search needs) loop-again-2 returns)
+    tie.close (tie.spec Inv-loop μ-loop loop-holds add-m answered-requires (λ c. search needs) loop-again add-a (λ c. search needs)
+    loop-again-2 returns)

@@ -8,4 +8,5 @@ returns c = c .before .before .put .ensures
 
 pub put-columns-spec : {M : Type 1} → statement M
 put-columns-spec =
-    tie.close (tie.spec (search needs) (search needs) (search needs) (search needs) (search needs) (search needs) returns)
+    tie.close (tie.spec (λ c. search needs) (λ c. search needs) (λ c. search needs) (λ c. search needs) (λ c κs. search needs)
+    (λ c. search needs) returns)

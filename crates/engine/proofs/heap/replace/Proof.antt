@@ -51,5 +51,6 @@ returns c =
 
 pub replace-spec : {M : Type 1} → statement M
 replace-spec =
-    tie.close (tie.spec (search needs) (search needs) (search needs) (search needs) (search needs) (search needs) shift-requires (search needs)
-    (search needs) cast-heap (search needs) put-rest-requires (search needs) put-rest-requires-2 (search needs) same-length returns)
+    tie.close (tie.spec (λ c κs. search needs) (λ c κs. search needs) (λ c κs. search needs) (λ c. search needs) (λ c. search needs)
+    (λ c. search needs) shift-requires (λ c. search needs) (λ c. search needs) cast-heap (λ c. search needs) put-rest-requires
+    (λ c. search needs) put-rest-requires-2 (λ c. search needs) same-length returns)

@@ -34,4 +34,6 @@ returns-4 c =
     rw (sym (b .before .before .before .sizes-fit .ensures) ∙ not-false _ (b .before .before .if1 .left), sym (b .before .sides-fit .ensures) ∙ not-false _ (b .if2 .left), sym (c .before .lengths-fit .ensures) ∙ not-false _ (c .if3 .left))
 
 pub judge-lent-spec : {M : Type 1} → statement M
-judge-lent-spec = tie.close (tie.spec (search needs) returns (search needs) returns-2 lengths-fit-requires returns-3 returns-4)
+judge-lent-spec =
+    tie.close (tie.spec (λ c κs. search needs) returns (λ c κs. search needs) returns-2 lengths-fit-requires returns-3
+    returns-4)

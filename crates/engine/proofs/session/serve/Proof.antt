@@ -31,4 +31,6 @@ returns c =
 
 pub serve-spec : {M : Type 1} → statement M
 serve-spec =
-    tie.close (tie.spec (search needs) (search needs) (search needs) run-calls-requires (search needs) (search needs) sub-fill part-fill-start (search needs) (search needs) (search needs) put-intervals-requires (search needs) (search needs) returns)
+    tie.close (tie.spec (λ c κs. search needs) (λ c. search needs) (λ c. search needs) run-calls-requires (λ c. search needs)
+    (λ c. search needs) sub-fill part-fill-start (λ c. search needs) (λ c κs. search needs) (λ c. search needs) put-intervals-requires
+    (λ c. search needs) (λ c. search needs) returns)

@@ -38,5 +38,6 @@ returns-2 c =
 
 pub decrease-key-spec : {M : Type 1} → statement M
 decrease-key-spec =
-    tie.close (tie.spec Inv-loop μ-loop (search needs) (search needs) (search needs) (λ c. search needs) (search needs) (search needs) (search needs)
-    returns (search needs) (search needs) (search needs) loop-again (search needs) returns-2)
+    tie.close (tie.spec Inv-loop μ-loop (λ c. search needs) (λ c. search needs) (λ c. search needs) (λ c. search needs) (λ c. search needs)
+    (λ c. search needs) (λ c. search needs) returns (λ c. search needs) (λ c. search needs) (λ c. search needs) loop-again
+    (λ c. search needs) returns-2)

@@ -15,4 +15,5 @@ returns-2 : tie.Need-returns-2
 returns-2 c = winner-block _ (c .if1 .left)
 
 pub winner-spec : {M : Type 1} → statement M
-winner-spec = tie.close (tie.spec (search needs) returns cast-sum returns-2)
+winner-spec =
+    tie.close (tie.spec (λ c. search needs) returns cast-sum returns-2)
