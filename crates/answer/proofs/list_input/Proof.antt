@@ -40,4 +40,4 @@ returns c =
 
 pub list-input-spec : {M : Type 1} → statement M
 list-input-spec =
-    tie.close (tie.spec slice-aggregate-write-listing (search needs) (search needs) returns)
+    tie.close (tie.spec slice-aggregate-write-listing (λ c κs. search needs) (λ c. search needs) returns)

@@ -15,4 +15,5 @@ returns c =
     put-both _ _ _ _ _ _ _ _ (bytes .put-bytes .ensures) (byte .put-byte .ensures) (omega arith)
 
 pub put-line-spec : {M : Type 1} → statement M
-put-line-spec = tie.close (tie.spec (search needs) put-byte-requires (search needs) returns)
+put-line-spec =
+    tie.close (tie.spec (λ c κs. search needs) put-byte-requires (λ c. search needs) returns)

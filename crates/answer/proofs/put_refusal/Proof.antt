@@ -26,4 +26,6 @@ returns c =
     rw (← refusal-is _) (put-both _ _ _ _ _ _ _ _ (put-both _ _ _ _ _ _ _ _ (word .put-bytes .ensures) (digits .put-number .ensures) (omega arith)) (byte .put-byte .ensures) (omega arith))
 
 pub put-refusal-spec : {M : Type 1} → statement M
-put-refusal-spec = tie.close (tie.spec (search needs) (search needs) put-number-requires put-byte-requires (search needs) returns)
+put-refusal-spec =
+    tie.close (tie.spec (λ c. search needs) (λ c κs. search needs) put-number-requires put-byte-requires (λ c. search needs)
+    returns)

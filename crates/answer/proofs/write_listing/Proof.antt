@@ -63,6 +63,6 @@ returns-3 c =
 
 pub write-listing-spec : {M : Type 1} → statement M
 write-listing-spec =
-    tie.close (tie.spec returns (search needs) (search needs) (search needs) (search needs) put-refusal-requires (search needs) returns-2
-    (search needs) (search needs) (search needs) (search needs) (search needs) (search needs) (search needs) (search needs)
-    put-vertices-requires (search needs) returns-3)
+    tie.close (tie.spec returns (λ c. search needs) (λ c. search needs) (λ c. search needs) (λ c κs. search needs) put-refusal-requires
+    (λ c. search needs) returns-2 (λ c. search needs) (λ c. search needs) (λ c. search needs) (λ c. search needs) (λ c κs. search needs)
+    (λ c. search needs) (λ c κs. search needs) (λ c. search needs) put-vertices-requires (λ c. search needs) returns-3)

@@ -12,5 +12,5 @@ abbrev μ-loop : tie.MeasureT-loop
 
 pub rectangle-agrees-spec : {M : Type 1} → statement M
 rectangle-agrees-spec =
-    tie.close (tie.spec Inv-loop μ-loop (search needs) (search needs) (search needs) (search needs) (search needs)
-    (search needs) (search needs) (search needs))
+    tie.close (tie.spec Inv-loop μ-loop (λ c κs. search needs) (λ c. search needs) (λ c κs. search needs) (λ c. search needs)
+    (λ c. search needs) (λ c. search needs) (λ c. search needs) (λ c. search needs))

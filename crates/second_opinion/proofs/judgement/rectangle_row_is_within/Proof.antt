@@ -12,5 +12,5 @@ abbrev μ-loop : tie.MeasureT-loop
 
 pub rectangle-row-is-within-spec : {M : Type 1} → statement M
 rectangle-row-is-within-spec =
-    tie.close (tie.spec Inv-loop μ-loop (search needs) (search needs) (search needs) (search needs) (search needs)
-    (search needs) (search needs))
+    tie.close (tie.spec Inv-loop μ-loop (λ c. search needs) (λ c κs. search needs) (λ c. search needs) (λ c. search needs)
+    (λ c. search needs) (λ c. search needs) (λ c. search needs))

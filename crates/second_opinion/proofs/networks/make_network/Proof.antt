@@ -5,5 +5,5 @@ use Rattle.second_opinion.proofs.networks.make_network.Tie as tie
 
 pub make-network-spec : {M : Type 1} → statement M
 make-network-spec =
-    tie.close (tie.spec (search needs) (search needs) (search needs) (search needs) (search needs) (search needs)
-    (search needs))
+    tie.close (tie.spec (λ c κs. search needs) (λ c κs. search needs) (λ c κs. search needs) (λ c. search needs) (λ c. search needs)
+    (λ c. search needs) (λ c. search needs))

@@ -13,4 +13,5 @@ mul-x c =
     omega (arith, mul-le-mul a b)
 
 pub times-spec : {M : Type 1} → statement M
-times-spec = tie.close (tie.spec mul-x (search needs) (search needs) (search needs))
+times-spec =
+    tie.close (tie.spec mul-x (λ c. search needs) (λ c. search needs) (λ c. search needs))

@@ -13,4 +13,5 @@ returns : tie.Need-returns
 returns c = omega (arith, mod-lt (c .advance .result) {m = c .before .before .args .most + 1} (omega arith))
 
 pub up-to-spec : {M : Type 1} → statement M
-up-to-spec = tie.close (tie.spec (search needs) (search needs) (search needs) cast-result returns)
+up-to-spec =
+    tie.close (tie.spec (λ c κs. search needs) (λ c. search needs) (λ c. search needs) cast-result returns)
