@@ -3,5 +3,5 @@ pub mod Listing
 pub mod Output
 pub mod Lines
 pub mod Refusals
-pub mod Answers
+pub mod Listed
 pub mod Front

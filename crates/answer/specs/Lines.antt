@@ -15,7 +15,7 @@ use Rattle.definitions.specs.Limits.{columnBytes, lineFields, linePlaces, lastP
 use Rattle.definitions.specs.Lists.{upFrom, firstCause}
 use Rattle.definitions.specs.Text.{blank, lineEnd}
 use Rattle.definitions.specs.Entries.{hasPlaces, decimal, nineColumns, judgeWrite, writeField, listingLine, refusalLine}
-use Rattle.fields.specs.Writing.{length-nineColumns, maxDigits, decimal-few}
+use Rattle.fields.specs.NineColumns.{length-nineColumns, maxDigits, decimal-few}
 use Rattle.basics.specs.Buffers.{flatMap-snoc, put, put-nothing}
 use Rattle.answer.specs.Listing.{listingLineBytes}
 use Rattle.answer.specs.Output.{Put, put-then}

@@ -13,7 +13,7 @@ use native.Mathlib.Numerals.{add-one}
 use native.Mathlib.Omega.{arith}
 use lib.ListN.{length, getD, set, take, length-set}
 use lib.Seq.{take-suc, length-take-le, getD-append-add, getD-set-same, getD-set-other, sets}
-use Rattle.layout.specs.Numbers.{sets-append}
+use Rattle.preparation.specs.Numbers.{sets-append}
 
 group-ends : (width j k : ℕ) → j < k → width * j + width ≤ width * k
 group-ends width j k l = omega (arith, mul-suc width j, mul-le-mul {n₁ = width} {m₁ = suc j} {n₂ = width} {m₂ = k} (omega arith) l)

@@ -1,3 +1,3 @@
 -- Laws of the fields: those that are read, and those that are written.
-pub mod Reading
-pub mod Writing
+pub mod SixColumns
+pub mod NineColumns

@@ -18,7 +18,7 @@ use Rattle.definitions.specs.Network.{Rectangle}
 use Rattle.definitions.specs.Model.{nobody, by, Model, least, through, parent, available, isActivated, activate, Interval, interval, runs, intervals, sameInterval, isKept, countNew}
 use Rattle.basics.specs.Tests.{clash, split-at, Order, less, more, order}
 use Rattle.heap_laws.specs.Inequality.{MongeAll}
-use Rattle.heap_laws.specs.Least.{beats, wins, loses}
+use Rattle.heap_laws.specs.Lesser.{beats, wins, loses}
 use Rattle.heap_laws.specs.Parents.{parent-snoc, parent-activated, available-parent}
 use Rattle.heap_laws.specs.Won.{won, won-between, Range, range}
 use Rattle.heap_laws.specs.Sound.{Sound, won-available}

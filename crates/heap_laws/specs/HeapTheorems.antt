@@ -23,18 +23,18 @@ use Rattle.definitions.specs.Blocks.{Monge, isMonge}
 use Rattle.definitions.specs.Model.{by, LeastLeft, parent, available, extract, Model, fresh, Interval, interval, intervals, isKept, Distinct, Call, coded, judge, step, Trace, extend, trace, AllExtractLeast, allowances, Rising}
 use Rattle.heap_laws.specs.Inequality as inequality
 use Rattle.heap_laws.specs.Neighbours as neighbours
-use Rattle.heap_laws.specs.Least.{from-is, upTo-is}
+use Rattle.heap_laws.specs.Lesser.{from-is, upTo-is}
 use Rattle.heap_laws.specs.Parents as parents
 use Rattle.heap_laws.specs.Won.{won, won-between, Range, SomeRange, range}
 use Rattle.heap_laws.specs.Sound.{trace-sound, step-floor, won-available}
-use Rattle.heap_laws.specs.Calls.{Activates, trace-snoc, trace-activate}
+use Rattle.heap_laws.specs.ModelCalls.{Activates, trace-snoc, trace-activate}
 use Rattle.heap_laws.specs.Runs.{runs-rising, IsRun, Longest, runs-longest, runs-length}
 use Rattle.heap_laws.specs.Counting.{runs-distinct}
 use Rattle.heap_laws.specs.Edits.{before, from, run-kept}
 use Rattle.heap_laws.specs.Activate as activation
 use Rattle.heap_laws.specs.Extract as extraction
-use Rattle.heap_laws.specs.Traces as traces
-use Rattle.heap_laws.specs.Answers.{trace-allowed, trace-extractions}
+use Rattle.heap_laws.specs.TraceCounts as traces
+use Rattle.heap_laws.specs.AllCalls.{trace-allowed, trace-extractions}
 use Rattle.heap_laws.specs.Agree as agree
 
 -- ---- the rectangle

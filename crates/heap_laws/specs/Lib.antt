@@ -1,10 +1,10 @@
 -- The laws of the heap model of a Monge rectangle. `HeapTheorems` restates the main ones; the others are their parts.
 pub mod Inequality
 pub mod Neighbours
-pub mod Least
+pub mod Lesser
 pub mod Parents
 pub mod Won
-pub mod Calls
+pub mod ModelCalls
 pub mod Found
 pub mod Sound
 pub mod Runs
@@ -13,8 +13,8 @@ pub mod Counting
 pub mod Edits
 pub mod Activate
 pub mod Extract
-pub mod Traces
-pub mod Answers
+pub mod TraceCounts
+pub mod AllCalls
 pub mod Agree
-pub mod Reading
+pub mod ColumnParents
 pub mod HeapTheorems

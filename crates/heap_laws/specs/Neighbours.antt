@@ -13,7 +13,7 @@ use borrow.Author.Tests.{leb-true, le-leb}
 use Rattle.definitions.specs.Lists.{all}
 use Rattle.definitions.specs.Network.{Rectangle}
 use Rattle.definitions.specs.Blocks.{Monge, corners, isMonge}
-use Rattle.basics.specs.Lists.{all-at, all-is}
+use Rattle.basics.specs.ListLaws.{all-at, all-is}
 use Rattle.heap_laws.specs.Inequality.{MongeAll}
 
 pub isMonge-is : (e : Rectangle) (rows cols : ℕ) → isMonge e rows cols ≡ true → Monge e rows cols

@@ -20,11 +20,11 @@ use Rattle.definitions.specs.Lists.{mem, Every}
 use Rattle.definitions.specs.Network.{Rectangle}
 use Rattle.definitions.specs.Model.{Best, nobody, by, lesser, least, Activation, Model, fresh, through, parent, available, leastFrom, isActivated, Call, activate, extract, step, Trace, extend, traceFrom, trace, Reached}
 use Rattle.basics.specs.Tests.{clash, or-left, Truth, holds, fails, truth}
-use Rattle.basics.specs.Lists.{every-snoc, every-map, Different, mem-snoc, different-snoc, at-most}
-use Rattle.heap_laws.specs.Least.{From, UpTo, from-lesser, upTo-lesser, upTo-le, upTo-beats}
+use Rattle.basics.specs.ListLaws.{every-snoc, every-map, Different, mem-snoc, different-snoc, at-most}
+use Rattle.heap_laws.specs.Lesser.{From, UpTo, from-lesser, upTo-lesser, upTo-le, upTo-beats}
 use Rattle.heap_laws.specs.Parents.{Once, once-snoc, parent-snoc}
 use Rattle.heap_laws.specs.Won.{won}
-use Rattle.heap_laws.specs.Calls.{cases, Cases, activates, extracts, refuses, step-activate, step-extract, step-refused, trace-snoc, trace-induction}
+use Rattle.heap_laws.specs.ModelCalls.{cases, Cases, activates, extracts, refuses, step-activate, step-extract, step-refused, trace-snoc, trace-induction}
 use Rattle.heap_laws.specs.Found.{Found, found-is}
 
 pub record Sound (e : Rectangle) (rows cols : ℕ) (m : Model) : Type 0 where

@@ -15,9 +15,9 @@ use Rattle.definitions.specs.Network.{Piece, entry, sizeOf}
 use Rattle.definitions.specs.Blocks.{blocksOf, passes}
 use Rattle.definitions.specs.Judgement.{judgeBounds, judgeSize, judgeVertices, judgeRow, judgeRows, judgeBlocks, judgeSource, judgePiece}
 use Rattle.basics.specs.Tests.{and-left, and-right}
-use Rattle.basics.specs.Lists.{every-is, Different, different-is}
+use Rattle.basics.specs.ListLaws.{every-is, Different, different-is}
 use Rattle.basics.specs.Causes.{no-cause, test-holds, within-is}
-use Rattle.labelling_laws.specs.Places.{at-place}
+use Rattle.labelling_laws.specs.VertexPlaces.{at-place}
 
 -- a network of n vertices with these pieces is accepted, and a source in it
 pub record Accepted (n : ℕ) (pieces : List Piece) (source : ℕ) : Type 0 where

@@ -15,11 +15,11 @@ use Rattle.definitions.specs.Limits.{maxSize}
 use Rattle.definitions.specs.Lists.{mem, total, upFrom, Every}
 use Rattle.definitions.specs.Network.{Piece, sizeOf, noPiece, ArcIn, Arc, Walk}
 use Rattle.definitions.specs.Blocks.{Window, windowsOf, rowsOf, logarithm, Block, blockOf, blocksOf, blocks, noBlock, passes, weight}
-use Rattle.basics.specs.Lists.{every-at, every-append, Any, any-at, at-any, any-left, any-right, any-cases, any-map, any-back, total-append, Different}
+use Rattle.basics.specs.ListLaws.{every-at, every-append, Any, any-at, at-any, any-left, any-right, any-cases, any-map, any-back, total-append, Different}
 use Rattle.heap_laws.specs.Neighbours.{isMonge-all}
 use Rattle.splits.specs.Windows.{Inside, windows-inside, pair-once, spanned, Spans, rows-few, cols-few}
-use Rattle.basics.specs.Places.{different-at}
-use Rattle.basics.specs.Pieces.{block-rows, block-cols, row-vertex, col-vertex, entry-at}
+use Rattle.basics.specs.ListPlaces.{different-at}
+use Rattle.basics.specs.PiecePlaces.{block-rows, block-cols, row-vertex, col-vertex, entry-at}
 use Rattle.labelling_laws.specs.Walks.{ArcOf, BlockArc, walk-map}
 use Rattle.labelling_laws.specs.OneBlock.{Fit}
 use Rattle.labelling_laws.specs.Acceptance.{Suits}

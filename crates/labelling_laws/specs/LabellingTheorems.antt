@@ -27,10 +27,10 @@ use Rattle.definitions.specs.Judgement.{judgeBounds, judgeSize, judgeVertices, 
 use Rattle.definitions.specs.Entries.{judgeLabelling}
 use Rattle.labelling_laws.specs.Acceptance.{Accepted}
 use Rattle.labelling_laws.specs.Ends as ends
-use Rattle.labelling_laws.specs.Loop.{chosen-none}
-use Rattle.labelling_laws.specs.Traces.{Made, made}
-use Rattle.labelling_laws.specs.Pieces as network
-use Rattle.labelling_laws.specs.Lent.{lent-accepted}
+use Rattle.labelling_laws.specs.LoopLaws.{chosen-none}
+use Rattle.labelling_laws.specs.BlockTraces.{Made, made}
+use Rattle.labelling_laws.specs.PieceBlocks as network
+use Rattle.labelling_laws.specs.LentNetworks.{lent-accepted}
 
 module _ (n : ℕ) (pieces : List Piece) (source : ℕ) (ok : Accepted n pieces source) where
   -- After any number of steps every answer of every block has code 0: no activation was refused, and no extraction found nothing.

@@ -7,14 +7,14 @@ use mathlib.Core.List.{List, [], _∷_, _++_, map, append-assoc}
 use Prim.Native.Nat.{ℕ, zero, suc, _+_, _*_}
 use native.Mathlib.Omega.{arith}
 use lib.ListN.{getD, length, length-append}
-use Rattle.basics.specs.Lists.{every-append}
+use Rattle.basics.specs.ListLaws.{every-append}
 use Rattle.definitions.specs.Lists.{total, firstCause, Every}
 use Rattle.definitions.specs.Network.{Piece, sizeOf}
 use Rattle.definitions.specs.Judgement.{judgeBounds, judgeSize, judgeVertices, judgeRow, judgeRows, judgeBlocks, judgeSource, judgePiece, judgeFrom, judgeNetwork}
 use Rattle.definitions.specs.Text.{fieldBytes, fieldAt, lengthAt, FieldReading, value, require, readField, readFields, judgeLineEnd, readLine, lineBytes, readRows, readPiece, pieceBytes, readPieces, Plan, judgeEnd, readBody, readPlan, sizesOf, verticesOf, lengthsOf}
 use Rattle.basics.specs.Causes.{size-in}
-use Rattle.text.specs.Reading.{pieceOf, value-same, bind-value, require-value}
-use Rattle.text.specs.Pieces.{Shaped}
+use Rattle.text.specs.ReadSteps.{pieceOf, value-same, bind-value, require-value}
+use Rattle.text.specs.PieceReading.{Shaped}
 use Rattle.text.specs.Back.{size-back, piece-back}
 
 -- ---- what was read, part by part

@@ -5,15 +5,15 @@ use Prim.Native.Nat.{ℕ, suc, _+_, _-_, _*_}
 use native.Mathlib.Omega.{arith}
 use lib.ListN.{getD, length, take, drop, replicate, length-append, length-map}
 use lib.Seq.{take-at, drop-at, getD-at, drop-drop}
-use Rattle.basics.specs.Lists.{every-append}
+use Rattle.basics.specs.ListLaws.{every-append}
 use Rattle.basics.specs.Buffers.{flatMap-append}
 use Rattle.definitions.specs.Limits.{lengthPlaces, rowPlaces, tablePlaces}
 use Rattle.definitions.specs.Lists.{padded, upFrom, Every}
 use Rattle.definitions.specs.Network.{Piece, sizeOf}
 use Rattle.definitions.specs.Judgement.{pieceAt, piecesOf}
 use Rattle.definitions.specs.Text.{sizesOf, verticesOf, tableOf, lengthsOf}
-use Rattle.text.specs.Pieces.{Shaped, vertices-long, tables-long}
-use Rattle.text.specs.Rows.{rows-from}
+use Rattle.text.specs.PieceReading.{Shaped, vertices-long, tables-long}
+use Rattle.text.specs.RowReading.{rows-from}
 
 -- a piece between others
 module _ (done rest : List Piece) (q : Piece) (before : Every Shaped done) (shape : Shaped q) where

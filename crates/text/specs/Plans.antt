@@ -18,10 +18,10 @@ use Rattle.definitions.specs.Judgement.{judgeBounds, judgeSource}
 use Rattle.definitions.specs.Text.{fieldAt, Read, refused, value, _>>=_, require, readLine, lineBytes, pieceBytes, readPieces, Plan, judgeEnd, readBody, readPlan, judgeLength}
 use Rattle.definitions.specs.Entries.{AfterRead, judgeBuffers, readRefusal, afterRead, reading}
 use Rattle.text.specs.Outcomes.{Came}
-use Rattle.text.specs.Reading.{require-stop}
-use Rattle.text.specs.Steps.{came-out, came-go}
-use Rattle.text.specs.Rows.{line-ends}
-use Rattle.text.specs.Pieces.{Held, PiecesLeft}
+use Rattle.text.specs.ReadSteps.{require-stop}
+use Rattle.text.specs.Returns.{came-out, came-go}
+use Rattle.text.specs.RowReading.{line-ends}
+use Rattle.text.specs.PieceReading.{Held, PiecesLeft}
 
 -- ---- the question
 

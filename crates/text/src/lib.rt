@@ -1,5 +1,5 @@
 // The text reader: text of at most 60,000 bytes into the lent sizes, vertices and lengths.
-mod reader;
+mod field_reader;
 
 ghost use mathlib.Core.Path.{_≡_};
 ghost use mathlib.Core.List.{List, []};
@@ -11,8 +11,8 @@ ghost use Rattle.definitions.specs.Judgement.{judgeSize, judgeVertices, judgeRo
 ghost use Rattle.definitions.specs.Text.{fieldBytes, lineBytes, fieldAt, lengthAt, readField, readFields, readLine, readRows, readPiece, readPieces, readBody, readPlan};
 ghost use Rattle.definitions.specs.Entries.{readRefusal, reading};
 ghost use Rattle.text.specs.Outcomes.{Came, RowsLeft};
-ghost use Rattle.text.specs.Reading.{judged, readSized};
-ghost use Rattle.text.specs.Pieces.{Held, Room, Free, TableRead, SizedLeft, PieceLeft, PiecesLeft};
+ghost use Rattle.text.specs.ReadSteps.{judged, readSized};
+ghost use Rattle.text.specs.PieceReading.{Held, Room, Free, TableRead, SizedLeft, PieceLeft, PiecesLeft};
 ghost use Rattle.text.specs.Plans.{readQuestion, PlanRead};
 use bounds::Cause;
 use bounds::Network;
@@ -29,7 +29,7 @@ fn read_fields(text: &[u8], at: usize, out: &mut [u32]) -> u32
     let mut i = 0;
     let mut place = at;
     while i < out.len() {
-        let field = reader::field_at(text, place);
+        let field = field_reader::field_at(text, place);
         let Field::Number(x) = field else {
             return Cause::LAYOUT;
         };
@@ -77,7 +77,7 @@ fn read_vertices(text: &[u8], at: usize, n: u32, out: &mut [u32]) -> u32
     if cause != Cause::NONE {
         return cause;
     }
-    checks::judge_vertices(n, out)
+    judgements::judge_vertices(n, out)
 }
 
 // Row i of a table, then its judgement.
@@ -89,7 +89,7 @@ fn read_row(text: &[u8], at: usize, i: usize, out: &mut [u32]) -> u32
     if cause != Cause::NONE {
         return cause;
     }
-    checks::judge_row(i, out)
+    judgements::judge_row(i, out)
 }
 
 // A piece's size, judged before the rest of its line is looked at.
@@ -101,7 +101,7 @@ struct Size {
 fn read_size(text: &[u8], at: usize) -> Size
     ensures { λ r. ⌜ Came (judged judgeSize (readField fieldAt (now (text .entry)) at)) (r .number) (λ m. r .m ≡ m) ⌝ }
 {
-    let field = reader::field_at(text, at);
+    let field = field_reader::field_at(text, at);
     let Field::Number(m) = field else {
         return Size {
             number: Cause::LAYOUT,
@@ -109,7 +109,7 @@ fn read_size(text: &[u8], at: usize) -> Size
         };
     };
     Size {
-        number: checks::judge_size(m),
+        number: judgements::judge_size(m),
         m,
     }
 }
@@ -143,7 +143,7 @@ fn read_table(text: &[u8], at: usize, m: usize, table: &mut [u32]) -> u32
     if cause != Cause::NONE {
         return cause;
     }
-    checks::judge_blocks(m as u32, table)
+    judgements::judge_blocks(m as u32, table)
 }
 
 // The rest of piece d, whose size is m: its vertices, then its table, into their places.
@@ -264,7 +264,7 @@ fn read_question(text: &[u8], at: usize, n: u32) -> Question
             source,
         };
     }
-    let outside = checks::judge_source(n, source);
+    let outside = judgements::judge_source(n, source);
     if outside != Cause::NONE {
         return Question {
             number: outside,
@@ -307,7 +307,7 @@ fn read_body(
     requires { ⌜ (lineBytes 2 ≤ length (now text)) × Held [] (now sizes) (now vertices) (now lengths) ⌝ }
     ensures { λ r. ⌜ PlanRead (readBody (now (text .entry)) n p) r (now (sizes .exit)) (now (vertices .exit)) (now (lengths .exit)) ⌝ }
 {
-    let bounds = checks::judge_bounds(n, p);
+    let bounds = judgements::judge_bounds(n, p);
     if bounds != Cause::NONE {
         return refusal(bounds);
     }
@@ -359,7 +359,7 @@ pub fn read_text(
 ) -> ReadAnswer
     ensures { λ r. ⌜ record { answer = r; sizes = now (sizes .exit); vertices = now (vertices .exit); lengths = now (lengths .exit) } ≡ reading (now (text .entry)) (now (sizes .entry)) (now (vertices .entry)) (now (lengths .entry)) ⌝ }
 {
-    let buffers = checks::judge_buffers(sizes.len(), vertices.len(), lengths.len());
+    let buffers = judgements::judge_buffers(sizes.len(), vertices.len(), lengths.len());
     if buffers != Cause::NONE {
         return refusal(buffers);
     }

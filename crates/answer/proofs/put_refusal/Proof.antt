@@ -1,7 +1,7 @@
 -- `answer::put_refusal` meets its contract: ten digits are room for any number.
 use native.Mathlib.Omega.{arith}
 use borrow.Author.Needs.{needs}
-use Rattle.fields.specs.Writing.{decimal-few}
+use Rattle.fields.specs.NineColumns.{decimal-few}
 use Rattle.answer.specs.Lines.{refusal-is}
 use Rattle.answer.specs.Output.{put-both}
 use Rattle.answer.proofs.put_refusal.Statement.{statement}

@@ -8,7 +8,7 @@ use borrow.Author.Needs.{needs}
 use Rattle.definitions.specs.Entries.{refusalLine, listing}
 use Rattle.answer.specs.Lines.{length-line}
 use Rattle.answer.specs.Output.{put-both}
-use Rattle.answer.specs.Answers.{sized, Understood, read-accepted, read-refused, vertices-fit, labelled, untouched, finished}
+use Rattle.answer.specs.Listed.{sized, Understood, read-accepted, read-refused, vertices-fit, labelled, untouched, finished}
 use Rattle.answer.proofs.write_listing.Statement.{statement}
 use Rattle.answer.proofs.write_listing.Tie as tie
 

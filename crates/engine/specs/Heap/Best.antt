@@ -9,7 +9,7 @@ use native.Mathlib.Omega.{arith}
 use Rattle.definitions.specs.Limits.{sum}
 use Rattle.definitions.specs.Model.{Best, nobody, by, leastFrom}
 use Rattle.basics.specs.Tests.{split-at}
-use Rattle.heap_laws.specs.Least.{from-is, beats-is}
+use Rattle.heap_laws.specs.Lesser.{from-is, beats-is}
 use Rattle.heap_laws.specs.Found.{Found, found-is}
 
 -- of the lengths f from column `first` up to, not including, `end`

@@ -5,7 +5,7 @@
 --   maxExtracted                           extractions of a labelling
 use Prim.Native.Nat.{ℕ, _+_, _*_}
 use Rattle.definitions.specs.Limits.{maxPieces, maxSize}
-use Rattle.layout.specs.Layout.{maxBlocks}
+use Rattle.preparation.specs.Prepared.{maxBlocks}
 
 -- laws `step-new` and `step-new-extract` of the heap
 abbrev pub activationInserts : ℕ

@@ -16,13 +16,13 @@ use Rattle.definitions.specs.Network.{Piece, sizeOf}
 use Rattle.definitions.specs.Blocks.{Window, windowsOf, blockOf}
 use Rattle.definitions.specs.Labelling.{BlockState, activation, apply, placeOf, activateVertex, noBlockState}
 use Rattle.basics.specs.Tests.{split-at, Equal, equal, differ, equality}
-use Rattle.basics.specs.Lists.{Different, every-at}
+use Rattle.basics.specs.ListLaws.{Different, every-at}
 use Rattle.splits.specs.Windows.{Inside, windows-inside}
-use Rattle.layout.specs.Placements.{length-windowsOf}
-use Rattle.layout.specs.Numbering.{noWindow}
-use Rattle.layout.specs.Stretches.{Stretch, stretch-whole, stretch-fits}
-use Rattle.layout.specs.Rows.{row-inside, row-outside}
-use Rattle.labelling_laws.specs.Loop.{activated-none, activated-one}
+use Rattle.preparation.specs.Placements.{length-windowsOf}
+use Rattle.preparation.specs.Numbering.{noWindow}
+use Rattle.preparation.specs.Stretches.{Stretch, stretch-whole, stretch-fits}
+use Rattle.preparation.specs.BlockRows.{row-inside, row-outside}
+use Rattle.labelling_laws.specs.LoopLaws.{activated-none, activated-one}
 use Rattle.engine.specs.declared.labelling.Half.{Half}
 use Rattle.engine.specs.Labelling.Insertions.{insertedIn, inserted-set}
 use Rattle.engine.specs.Labelling.Halves.{halfOf, Halved, halved, Misses, Level, level}

@@ -13,15 +13,15 @@ use Rattle.definitions.specs.Limits.{maxVertices, maxPieces, maxSize, vertexPla
 use Rattle.definitions.specs.Network.{Piece, sizeOf, noPiece}
 use Rattle.definitions.specs.Blocks.{windowsOf, Block, noBlock, blockOf, blocks}
 use Rattle.definitions.specs.Judgement.{pieceAt, piecesOf}
-use Rattle.basics.specs.Lists.{Different, every-at}
+use Rattle.basics.specs.ListLaws.{Different, every-at}
 use Rattle.basics.specs.Sequences.{length-upFrom, getD-each}
-use Rattle.layout.specs.Layout.{sizeAt, placementsOf, partsOf, blocksUpTo, firstsOf, rowIn, colsIn, lastIn, tableCount, tablesOf, placeIn, firstIn, sizeIn, vertexIn, piecesIn}
-use Rattle.layout.specs.Placements.{size-small, length-upTo}
-use Rattle.layout.specs.Numbering.{Fits, noWindow, noPlacement, size-is, sizeOf-is, first-is, firsts-are}
-use Rattle.layout.specs.Places.{vertex-at, found-place, place-found}
-use Rattle.layout.specs.Parts.{cols-is, last-is, row-at, placed, block-count, block-of, cols-are, row-vertex-is, column-is}
-use Rattle.layout.specs.Tables.{NumbersSame, numbers-same, tables-count, place-in, first-in, size-in, vertex-in, pieces-in}
-use Rattle.layout.specs.LayoutTheorems.{the-count, the-window}
+use Rattle.preparation.specs.Prepared.{sizeAt, placementsOf, partsOf, blocksUpTo, firstsOf, rowIn, colsIn, lastIn, tableCount, tablesOf, placeIn, firstIn, sizeIn, vertexIn, piecesIn}
+use Rattle.preparation.specs.Placements.{size-small, length-upTo}
+use Rattle.preparation.specs.Numbering.{Fits, noWindow, noPlacement, size-is, sizeOf-is, first-is, firsts-are}
+use Rattle.preparation.specs.PlaceTable.{vertex-at, found-place, place-found}
+use Rattle.preparation.specs.Parts.{cols-is, last-is, row-at, placed, block-count, block-of, cols-are, row-vertex-is, column-is}
+use Rattle.preparation.specs.Tables.{NumbersSame, numbers-same, tables-count, place-in, first-in, size-in, vertex-in, pieces-in}
+use Rattle.preparation.specs.PreparationTheorems.{the-count, the-window}
 use Rattle.labelling_laws.specs.Acceptance.{Accepted, Suits, suits}
 use Rattle.labelling_laws.specs.OneBlock.{Fit}
 use Rattle.labelling_laws.specs.Arcs.{blocks-fit}

@@ -14,12 +14,12 @@ use Rattle.definitions.specs.Network.{Piece, sizeOf}
 use Rattle.definitions.specs.Blocks.{windowsOf, blockOf}
 use Rattle.definitions.specs.Labelling.{BlockState, placeOf, activateVertex, noBlockState}
 use Rattle.basics.specs.Tests.{split-at}
-use Rattle.basics.specs.Lists.{every-at}
+use Rattle.basics.specs.ListLaws.{every-at}
 use Rattle.splits.specs.Windows.{Inside, windows-inside}
-use Rattle.layout.specs.Placements.{length-windowsOf}
-use Rattle.layout.specs.Numbering.{noWindow}
-use Rattle.layout.specs.Rows.{row-absent}
-use Rattle.labelling_laws.specs.Loop.{activated-at, activated-none}
+use Rattle.preparation.specs.Placements.{length-windowsOf}
+use Rattle.preparation.specs.Numbering.{noWindow}
+use Rattle.preparation.specs.BlockRows.{row-absent}
+use Rattle.labelling_laws.specs.LoopLaws.{activated-at, activated-none}
 use Rattle.engine.specs.Labelling.Insertions.{insertedIn}
 use Rattle.engine.specs.Labelling.Descent.{blockIn, Descended, Stands, descent-done}
 

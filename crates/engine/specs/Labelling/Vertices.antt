@@ -20,17 +20,17 @@ use Rattle.definitions.specs.Blocks.{windowsOf, Block, noBlock, blockOf, blocks
 use Rattle.definitions.specs.Model.{isActivated}
 use Rattle.definitions.specs.Labelling.{BlockState, placeOf, activateVertex, noBlockState}
 use Rattle.basics.specs.Tests.{split-at}
-use Rattle.basics.specs.Lists.{every-at}
+use Rattle.basics.specs.ListLaws.{every-at}
 use Rattle.splits.specs.Windows.{Inside, windows-inside}
-use Rattle.basics.specs.Pieces.{block-rows}
-use Rattle.layout.specs.Layout.{rowIn, rowCountIn, tableCount, placeIn, firstIn, sizeIn, piecesIn}
-use Rattle.layout.specs.Placements.{length-windowsOf}
-use Rattle.layout.specs.Numbering.{noWindow}
-use Rattle.labelling_laws.specs.Places.{place-of}
+use Rattle.basics.specs.PiecePlaces.{block-rows}
+use Rattle.preparation.specs.Prepared.{rowIn, rowCountIn, tableCount, placeIn, firstIn, sizeIn, piecesIn}
+use Rattle.preparation.specs.Placements.{length-windowsOf}
+use Rattle.preparation.specs.Numbering.{noWindow}
+use Rattle.labelling_laws.specs.VertexPlaces.{place-of}
 use Rattle.labelling_laws.specs.OneBlock.{Welcome}
 use Rattle.engine.specs.Labelling.State.{Tables, Arrays, changed, Running}
 use Rattle.engine.specs.Labelling.Counts.{placeInserts}
-use Rattle.engine.specs.Labelling.Calls.{accepted-is, count-is, block-same}
+use Rattle.engine.specs.Labelling.BlockCalls.{accepted-is, count-is, block-same}
 use Rattle.engine.specs.Labelling.Begins.{relabelled}
 use Rattle.engine.specs.Labelling.Insertions.{insertedIn}
 use Rattle.engine.specs.Labelling.Descent.{blockIn}

@@ -11,7 +11,7 @@ use Rattle.definitions.specs.Lists.{Every}
 use Rattle.definitions.specs.Network.{Rectangle}
 use Rattle.definitions.specs.Blocks.{Monge}
 use Rattle.definitions.specs.Model.{Activation, Model, intervals, Reached}
-use Rattle.layout.specs.HeapWords.{heapWords}
+use Rattle.preparation.specs.HeapWords.{heapWords}
 use Rattle.engine.specs.Promises.Words.{markOf, kept}
 
 -- the block whose rows are lent, from column col0 on

@@ -13,7 +13,7 @@ use Rattle.definitions.specs.Limits.{maxSide, rowPlaces, answerSize, unreached}
 use Rattle.definitions.specs.Lists.{total, Every}
 use Rattle.definitions.specs.Model.{Model, fresh, isActivated, intervals, Distinct, countNew, Call, Answer, Stepped, step, allowance, ExtractsLeast, Trace, trace, AllExtractLeast, allowances}
 use Rattle.definitions.specs.Entries.{answerNumbers}
-use Rattle.layout.specs.HeapWords.{heapWords}
+use Rattle.preparation.specs.HeapWords.{heapWords}
 use Rattle.engine.specs.declared.session.Called.{Called}
 use Rattle.engine.specs.Promises.Words.{kept}
 use Rattle.engine.specs.Promises.Heap.{entry, Checked, Holds}

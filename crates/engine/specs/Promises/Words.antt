@@ -5,7 +5,7 @@ use mathlib.Core.List.{List, [], _∷_}
 use Prim.Native.Nat.{ℕ, zero, suc, _+_}
 use lib.ListN.{getD}
 use Rattle.definitions.specs.Model.{Interval, interval}
-use Rattle.layout.specs.HeapWords.{countWord, markWord, parentWord, firstWord, lastWord, intervalStart}
+use Rattle.preparation.specs.HeapWords.{countWord, markWord, parentWord, firstWord, lastWord, intervalStart}
 
 unfoldable pub countOf : List ℕ → ℕ
 countOf w = getD w countWord 0

@@ -19,7 +19,7 @@ use Rattle.basics.specs.Buffers.{flatMap-snoc, front-sets, front-full}
 use Rattle.basics.specs.Sequences.{map-next}
 use Rattle.engine.specs.Strides.{group-behind}
 use Rattle.engine.specs.Promises.Words.{countOf, intervalAt, span, kept}
-use Rattle.engine.specs.Heap.Words.{Word, span-cut, numbers-long}
+use Rattle.engine.specs.Heap.WordLaws.{Word, span-cut, numbers-long}
 
 -- the numbers xs are those of the first k places
 pub record Front (width k : ℕ) (before xs now : List ℕ) : Type 0 where

@@ -3,7 +3,7 @@ use mathlib.Core.Path.{sym}
 use native.Mathlib.Omega.{arith}
 use borrow.Author.Needs.{needs}
 use lib.Seq.{length-take-le}
-use Rattle.answer.specs.Answers.{written-fits}
+use Rattle.answer.specs.Listed.{written-fits}
 use Rattle.replay_labels.proofs.write_listing.Statement.{statement}
 use Rattle.replay_labels.proofs.write_listing.Tie as tie
 

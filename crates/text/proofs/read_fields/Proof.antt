@@ -5,8 +5,8 @@ use native.Mathlib.Omega.{arith}
 use borrow.Author.Needs.{needs}
 use lib.ListN.{length, take}
 use Rattle.definitions.specs.Text.{FieldAnswer, fieldAt, fieldAnswer, readFields}
-use Rattle.text.specs.Reading.{after, after-none, fields-turn, field-inside}
-use Rattle.text.specs.Steps.{fields-broken, fields-ended}
+use Rattle.text.specs.ReadSteps.{after, after-none, fields-turn, field-inside}
+use Rattle.text.specs.Returns.{fields-broken, fields-ended}
 use Rattle.text.proofs.read_fields.Statement.{statement}
 use Rattle.text.proofs.read_fields.Tie as tie
 

@@ -1,7 +1,7 @@
 -- `read_line`: the fields lie in the text, so that the place behind them can be compared with its end.
 use borrow.Author.Needs.{needs}
-use Rattle.text.specs.Reading.{field-inside}
-use Rattle.text.specs.Steps.{line-refused, line-in, line-short, line-other, line-closed}
+use Rattle.text.specs.ReadSteps.{field-inside}
+use Rattle.text.specs.Returns.{line-refused, line-in, line-short, line-other, line-closed}
 use Rattle.text.proofs.read_line.Statement.{statement}
 use Rattle.text.proofs.read_line.Tie as tie
 

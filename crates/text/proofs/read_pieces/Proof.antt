@@ -4,7 +4,7 @@ use Prim.Native.Nat.{_-_, _≤_}
 use native.Mathlib.Omega.{arith}
 use borrow.Author.Needs.{needs}
 use lib.ListN.{length}
-use Rattle.text.specs.Pieces.{PiecesGoing, pieces-begun, pieces-turn, pieces-broken, pieces-ended}
+use Rattle.text.specs.PieceReading.{PiecesGoing, pieces-begun, pieces-turn, pieces-broken, pieces-ended}
 use Rattle.text.proofs.read_pieces.Statement.{statement}
 use Rattle.text.proofs.read_pieces.Tie as tie
 

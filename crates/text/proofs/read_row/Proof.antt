@@ -1,5 +1,5 @@
 -- `read_row`: the line, then its judgement.
-use Rattle.text.specs.Steps.{judged-refused, judged-then}
+use Rattle.text.specs.Returns.{judged-refused, judged-then}
 use borrow.Author.Needs.{needs}
 use Rattle.text.proofs.read_row.Statement.{statement}
 use Rattle.text.proofs.read_row.Tie as tie

@@ -4,9 +4,9 @@ use Prim.Native.Nat.{ℕ, _+_, _*_, _≤_, _-_}
 use native.Mathlib.Omega.{arith}
 use borrow.Author.Needs.{needs}
 use lib.ListN.{length, length-replicate}
-use Rattle.text.specs.Buffers.{part-size, part-long, part-put, part-kept}
+use Rattle.text.specs.Padding.{part-size, part-long, part-put, part-kept}
 use Rattle.definitions.specs.Limits.{rowPlaces, tablePlaces}
-use Rattle.text.specs.Rows.{RowsGoing, rows-begun, rows-turn, rows-broken, rows-ended}
+use Rattle.text.specs.RowReading.{RowsGoing, rows-begun, rows-turn, rows-broken, rows-ended}
 use Rattle.text.proofs.read_rows.Statement.{statement}
 use Rattle.text.proofs.read_rows.Tie as tie
 

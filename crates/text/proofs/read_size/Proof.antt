@@ -5,8 +5,8 @@ use Prim.Native.Nat.{ℕ}
 use native.Mathlib.Omega.{arith}
 use Rattle.definitions.specs.Judgement.{judgeSize}
 use Rattle.definitions.specs.Text.{fieldAt, fieldAnswer}
-use Rattle.text.specs.Reading.{field-go, field-stop, judged-stop}
-use Rattle.text.specs.Steps.{came-out, came-judged}
+use Rattle.text.specs.ReadSteps.{field-go, field-stop, judged-stop}
+use Rattle.text.specs.Returns.{came-out, came-judged}
 use borrow.Author.Needs.{needs}
 use Rattle.text.proofs.read_size.Statement.{statement}
 use Rattle.text.proofs.read_size.Tie as tie

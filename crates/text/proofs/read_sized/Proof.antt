@@ -5,8 +5,8 @@ use native.Mathlib.Omega.{arith}
 use borrow.Author.Needs.{needs}
 use lib.ListN.{length}
 use Rattle.definitions.specs.Limits.{rowPlaces, tablePlaces}
-use Rattle.text.specs.Buffers.{part-size, part-long, part-put}
-use Rattle.text.specs.Pieces.{rows-place, sized-unlisted, sized-read}
+use Rattle.text.specs.Padding.{part-size, part-long, part-put}
+use Rattle.text.specs.PieceReading.{rows-place, sized-unlisted, sized-read}
 use Rattle.text.proofs.read_sized.Statement.{statement}
 use Rattle.text.proofs.read_sized.Tie as tie
 

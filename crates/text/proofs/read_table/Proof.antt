@@ -3,7 +3,7 @@ use mathlib.Core.Path.{_≡_, ap, _∙_}
 use Prim.Native.Nat.{ℕ}
 use lib.ListN.{length, length-replicate}
 use Rattle.definitions.specs.Limits.{tablePlaces}
-use Rattle.text.specs.Pieces.{table-broken, table-judged}
+use Rattle.text.specs.PieceReading.{table-broken, table-judged}
 use borrow.Author.Needs.{needs}
 use Rattle.text.proofs.read_table.Statement.{statement}
 use Rattle.text.proofs.read_table.Tie as tie

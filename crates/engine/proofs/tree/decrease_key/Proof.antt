@@ -6,7 +6,7 @@ use Prim.Native.Nat.{ℕ, _<_}
 use native.Mathlib.Omega.{arith}
 use borrow.Author.Needs.{needs}
 use lib.ListN.{length}
-use Rattle.engine.specs.Tree.Words.{leaves, treeWords}
+use Rattle.engine.specs.Tree.TreeWords.{leaves, treeWords}
 use Rattle.engine.specs.Tree.Climb.{Decreasing, decrease-start, decrease-on, decrease-done}
 use Rattle.engine.proofs.tree.decrease_key.Statement.{statement}
 use Rattle.engine.proofs.tree.decrease_key.Tie as tie

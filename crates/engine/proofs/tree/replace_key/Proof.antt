@@ -8,7 +8,7 @@ use borrow.Author.Needs.{needs}
 use lib.ListN.{length, length-set}
 use lib.Seq.{getD-set-same}
 use Rattle.engine.specs.Tree.Pairs.{sibling, pair}
-use Rattle.engine.specs.Tree.Words.{levels, leaves, treeWords, at}
+use Rattle.engine.specs.Tree.TreeWords.{levels, leaves, treeWords, at}
 use Rattle.engine.specs.Tree.Climb.{Climbing, climb-start, climb-on, climb-done, AtLevel, level-above, level-on}
 use Rattle.engine.proofs.tree.replace_key.Statement.{statement}
 use Rattle.engine.proofs.tree.replace_key.Tie as tie

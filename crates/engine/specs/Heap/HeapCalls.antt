@@ -1,0 +1,325 @@
+-- A call on words that hold a model leaves words that hold the next one, and its counts are the model's.
+--   Becomes becomes                  the words hold another model; inserted and removed are the model's
+--   ActivateGiven ActivateNeeds ActivateLeaves    an activation, of a given model; of some model; of any
+--   PutFirstLeaves first-done        one interval with all columns
+--   activated-first                  the first row gets it
+--   activated-none activated-some    nothing is won; columns are won
+--   Small activated-small            what is written and returned is small
+--   MinExtracted ExtractMinLeaves extracted-..    an extraction, from a given model; from any
+use mathlib.Core.Path.{_≡_, refl, sym, ap, _∙_}
+use mathlib.Core.Bool.{false}
+use mathlib.Core.List.{List, [], _∷_, _++_}
+use mathlib.Core.Logic.{inl, inr, _≢_}
+use Prim.Native.Nat.{ℕ, suc, pred, _+_, _-_, _≤_, _<_}
+use native.Mathlib.Nat.{le-refl}
+use native.Mathlib.Omega.{arith}
+use lib.ListN.{length, getD, set, length-append, length-set}
+use lib.Seq.{getD-set-same, getD-set-other}
+use Rattle.definitions.specs.Limits.{maxLabel, maxSide, rowPlaces}
+use Rattle.definitions.specs.Lists.{Every}
+use Rattle.definitions.specs.declared.Extraction.{Extraction}
+use Rattle.definitions.specs.declared.Extraction.the-variants.{Column, Nothing}
+use Rattle.definitions.specs.Model.{nobody, by, Activation, Model, available, leastFrom, isActivated, activate, extract, extractionOf, answerOf, interval, intervals, isKept, countNew, Reached}
+use Rattle.definitions.specs.Labelling.{activation, extraction}
+use Rattle.basics.specs.ListLaws.{every-snoc}
+use Rattle.heap_laws.specs.ModelCalls.{Activates, step-activate, step-extract}
+use Rattle.heap_laws.specs.Won.{won, won-between, Range}
+use Rattle.heap_laws.specs.Sound.{reached-step}
+use Rattle.heap_laws.specs.Runs.{tag, runs-length}
+use Rattle.heap_laws.specs.Counting.{countNew-same, runs-distinct, balance}
+use Rattle.heap_laws.specs.Edits.{before, from, cutAt}
+use Rattle.heap_laws.specs.ColumnParents.{lookup-available, won-outside}
+use Rattle.heap_laws.specs.Activate.{activate-none, activate-edit, activate-inserted, none-kept, activate-first}
+use Rattle.heap_laws.specs.Extract.{extract-edit, extract-inserted}
+use Rattle.preparation.specs.HeapWords.{countWord, markWord, headWords, heapWords}
+use Rattle.engine.specs.Promises.Words.{countOf, markOf, firstAt, lastAt, span, kept}
+use Rattle.engine.specs.Promises.Heap.{entry, mark, Holds}
+use Rattle.engine.specs.Heap.WordLaws.{length-span, Outside, PutLeaves}
+use Rattle.engine.specs.Heap.Clear.{restLen-most, countAfter, Meets, Room, ClearLeaves, CutNeeds, CutLeaves}
+use Rattle.engine.specs.Heap.Search.{In, wins, SearchLeaves}
+use Rattle.engine.specs.Heap.Holds.{all-pairs, sound-of, run-at, count-most, Where, within, outside, where-is, laid, wins-is}
+use Rattle.engine.specs.declared.heap.Lowest.the-variants as lowest
+use Rattle.engine.specs.declared.heap.Lowest.the-variants.{At}
+use Rattle.engine.specs.Heap.LeastColumn.{LeastLeaves}
+use Rattle.engine.specs.Heap.Cuts.{cut-lengths, clear-trims, clear-kept, cut-kept, cut-trims, span-put}
+
+-- the words u hold the model m′ after m, and so many intervals are inserted and removed
+pub record Becomes (u : List ℕ) (rows : List (List ℕ)) (col0 cols : ℕ) (labels : List ℕ) (m m′ : Model) (inserted removed : ℕ) : Type 0 where
+  pub held : Holds u rows col0 cols labels m′
+  pub inserted-is : inserted ≡ countNew (intervals (entry rows col0) cols m′) (intervals (entry rows col0) cols m)
+  pub removed-is : removed ≡ countNew (intervals (entry rows col0) cols m) (intervals (entry rows col0) cols m′)
+
+length-kept : (w : List ℕ) → length (kept w) ≡ countOf w
+unfolding kept
+length-kept w = length-span w 0 (countOf w)
+
+module _ (w u : List ℕ) (rows : List (List ℕ)) (col0 cols : ℕ) (labels : List ℕ) (m : Model) (h : Holds w rows col0 cols labels m) (m′ : Model)
+    (long : length u ≡ length w) (marked : markOf u ≡ mark (m′ .activated)) (listed : kept u ≡ intervals (entry rows col0) cols m′)
+    (labels-at : Every (λ a. getD labels (a .row) 0 ≡ a .label) (m′ .activated)) (reached : Reached (entry rows col0) (length rows) cols m′) where
+  -- as many are removed as makes the lengths come out
+  becomes : (inserted removed : ℕ) → inserted ≡ countNew (intervals (entry rows col0) cols m′) (intervals (entry rows col0) cols m)
+      → inserted + countOf w ≡ removed + countOf u → Becomes u rows col0 cols labels m m′ inserted removed
+  unfolding intervals
+  becomes inserted removed a b = record {
+    held = record { checked = h .checked; long = omega (arith, h .long); labelled = h .labelled; listed = listed; marked = marked; labels-at = labels-at; reached = reached };
+    inserted-is = a;
+    removed-is = omega (
+      arith,
+      balance (intervals (entry rows col0) cols m′) (intervals (entry rows col0) cols m) (runs-distinct _ 0 cols) (runs-distinct _ 0 cols),
+      length-kept w,
+      length-kept u,
+      ap length (h .listed),
+      ap length listed,
+    );
+  }
+
+-- ---- an activation
+
+-- the words hold the model m, and the row is one that it accepts with the label at its place
+pub record ActivateGiven (w : List ℕ) (rows : List (List ℕ)) (col0 cols : ℕ) (labels : List ℕ) (row : ℕ) (m : Model) : Type 0 where
+  pub held : Holds w rows col0 cols labels m
+  pub row-in : row < length rows
+  pub row-new : isActivated row (m .activated) ≡ false
+  pub high : m .floor ≤ getD labels row 0
+  pub limited : getD labels row 0 ≤ maxLabel
+
+abbrev pub ActivateNeeds : List ℕ → List (List ℕ) → ℕ → ℕ → List ℕ → ℕ → Type 0
+ActivateNeeds w rows col0 cols labels row = (m : Model) × ActivateGiven w rows col0 cols labels row m
+
+abbrev pub ActivateLeaves : List ℕ → List ℕ → List (List ℕ) → ℕ → ℕ → List ℕ → ℕ → ℕ → ℕ → Type 0
+ActivateLeaves w u rows col0 cols labels row inserted removed =
+    (m : Model) → ActivateGiven w rows col0 cols labels row m → Becomes u rows col0 cols labels m (activate m row (getD labels row 0)) inserted removed
+
+-- what is written and returned where the row wins the columns `first` up to `end`: there is room for its interval in the gap, and the numbers are small
+pub record Small (u : List ℕ) (row hi first end mid rests : ℕ) : Type 0 where
+  pub room : heapWords (mid + 1) ≤ length u
+  pub row-in : row < maxSide
+  pub some : first < end
+  pub columns : end ≤ rowPlaces
+  pub few : rests ≤ 2
+  pub places : hi ≤ rowPlaces
+
+-- one interval with all columns, and the mark
+pub record PutFirstLeaves (w u : List ℕ) (row cols : ℕ) : Type 0 where
+  pub long : length u ≡ length w
+  pub marked : markOf u ≡ 1
+  pub counted : countOf u ≡ 1
+  pub listed : kept u ≡ interval row 0 (cols - 1) ∷ []
+
+-- both head words are written, then the interval
+pub first-done : (w u : List ℕ) (row cols : ℕ) → headWords ≤ length w → PutLeaves (set (set w countWord 1) markWord 1) u 0 (interval row 0 (cols - 1)) → PutFirstLeaves w u row cols
+unfolding countOf markOf kept
+first-done w u row cols l p =
+    let a : countWord ≢ markWord = omega arith in
+    let n = length-set w countWord 1 in
+    let k : countOf u ≡ 1 =
+    p .outside .counted ∙ unfold countOf in getD-set-other (set w countWord 1) markWord countWord 1 0 a ∙ getD-set-same w countWord 1 0 (omega arith) in
+    record {
+      long = p .outside .long ∙ simp length-set;
+      marked = p .outside .marked ∙ getD-set-same (set w countWord 1) markWord 1 0 (omega arith);
+      counted = k;
+      listed = ap (λ (i : ℕ). span u 0 i) k ∙ span-put (set (set w countWord 1) markWord 1) u 0 (interval row 0 (cols - 1)) p;
+    }
+
+module _ (w : List ℕ) (rows : List (List ℕ)) (col0 cols : ℕ) (labels : List ℕ) (row : ℕ) (m : Model) (c : ActivateGiven w rows col0 cols labels row m) where
+  abbrev next : Model
+  next = activate m row (getD labels row 0)
+
+  next-reached : Reached (entry rows col0) (length rows) cols next
+  next-reached =
+      let k = activation row (getD labels row 0) in
+      let a : Activates (length rows) m k = record { kind-is = refl; row-in = c .row-in; row-new = c .row-new; limited = c .limited; high = c .high } in
+      rw (step-activate (entry rows col0) (length rows) cols m k a) at (reached-step (entry rows col0) (length rows) cols m k (c .held .reached))
+
+  next-labels : Every (λ a. getD labels (a .row) 0 ≡ a .label) (next .activated)
+  unfolding activate
+  next-labels = every-snoc (λ a. getD labels (a .row) 0 ≡ a .label) (m .activated) (record { row = row; label = getD labels row 0 }) (c .held .labels-at) refl
+
+  next-mark : mark (next .activated) ≡ 1
+  unfolding activate mark
+  next-mark = go (m .activated)
+    where
+      go : (xs : List Activation) → mark (xs ++ (record { row = row; label = getD labels row 0 } ∷ [])) ≡ 1
+      go [] = refl
+      go (a ∷ xs) = refl
+
+  pub some-mark : markOf w ≢ 0 → m .activated ≢ []
+  unfolding mark
+  some-mark q z = q (c .held .marked ∙ ap mark z)
+
+  none-mark : markOf w ≡ 0 → m .activated ≡ []
+  unfolding mark
+  none-mark q = go (m .activated) (sym (c .held .marked) ∙ q)
+    where
+      go : (xs : List Activation) → mark xs ≡ 0 → xs ≡ []
+      go [] z = refl
+      go (a ∷ xs) z = absurd (omega arith)
+
+  pub activated-first : markOf w ≡ 0 → (u : List ℕ) → PutFirstLeaves w u row cols → Becomes u rows col0 cols labels m next 1 0
+  unfolding countNew isKept
+  activated-first q u f =
+      let none = none-mark q in
+      let z : cols - 1 ≡ pred cols = omega arith in
+      let e = none-kept (entry rows col0) cols m none in
+      let l : intervals (entry rows col0) cols next ≡ interval row 0 (pred cols) ∷ [] =
+      activate-first (entry rows col0) (length rows) cols m (sound-of (c .held)) row (getD labels row 0) (c .high) none (c .held .checked .some) in
+      becomes w u rows col0 cols labels m (c .held) next (f .long) (f .marked ∙ sym next-mark) (f .listed ∙ rw z (sym l)) next-labels next-reached
+      1 0 (rw (l, e)) (omega (arith, f .counted, length-kept w, ap length (c .held .listed ∙ e)))
+
+  module _ (some : m .activated ≢ []) where
+    marked : mark (m .activated) ≡ 1
+    unfolding mark
+    marked = go (m .activated) refl
+      where
+        go : (xs : List Activation) → m .activated ≡ xs → mark xs ≡ 1
+        go [] q = absurd (some q)
+        go (a ∷ xs) q = refl
+
+    -- the code's test over the intervals is the model's over the columns
+    lost-at : (P : ℕ → Type 0) → ((k x : ℕ) → P x → k < countOf w → In w k x → wins w rows col0 labels row k x ≡ false)
+        → (x : ℕ) → x < cols → P x → won (entry rows col0) (m .activated) row (getD labels row 0) x ≡ false
+    unfolding tag
+    lost-at P f x l p = go (where-is w rows col0 cols labels m (c .held) x l)
+      where
+        go : Where w (available (entry rows col0) m x) x → won (entry rows col0) (m .activated) row (getD labels row 0) x ≡ false
+        go (within k a i) = sym (wins-is w rows col0 cols labels m (c .held) row k x a i) ∙ f k x p a i
+        go (outside q) = won-outside (entry rows col0) (length rows) cols m x l (sound-of (c .held)) row (getD labels row 0) some (c .high)
+            (lookup-available (entry rows col0) (length rows) cols m x l ∙ ap tag q)
+
+    module _ (lo hi first end : ℕ) (f : SearchLeaves w rows col0 labels row lo hi first end) where
+      pub activated-none : hi ≤ lo → Becomes w rows col0 cols labels m next 0 0
+      activated-none l =
+          let q = activate-none (entry rows col0) cols m row (getD labels row 0) (λ x b. lost-at (λ _. Unit {0}) (λ k y _ a i. f .none l k y a i) x b tt) in
+          becomes w w rows col0 cols labels m (c .held) next refl (c .held .marked ∙ marked ∙ sym next-mark) (c .held .listed ∙ sym q) next-labels next-reached 0 0
+          (rw q (sym (countNew-same (intervals (entry rows col0) cols m)))) refl
+
+      module _ (l : lo < hi) where
+        at-ends : Range (won (entry rows col0) (m .activated) row (getD labels row 0)) cols first end
+        at-ends =
+            let s = f .stretch l in
+            let low : In w lo first = (s .from-first, s .start) in
+            let high : In w (hi - 1) (end - 1) = (omega (arith, s .stop), omega (arith, s .to-last)) in
+            let n : hi - 1 < countOf w = omega (arith, s .inside) in
+            let r = run-at w rows col0 cols labels m (c .held) (hi - 1) n in
+            record {
+              ordered = omega (arith, s .ordered);
+              inside = omega (arith, s .to-last, r .high);
+              within = λ x a b. won-between (entry rows col0) (length rows) cols (all-pairs (c .held .checked)) (m .activated) (sound-of (c .held) .in-rows) row (getD labels row 0) (c .row-in)
+                  first x (end - 1) a (omega arith) (omega (arith, s .to-last, r .high))
+                  (sym (wins-is w rows col0 cols labels m (c .held) row lo first (omega (arith, s .inside)) low) ∙ f .won l lo first (omega (arith, s .inside)) low (le-refl first) (s .ordered))
+                  (sym (wins-is w rows col0 cols labels m (c .held) row (hi - 1) (end - 1) n high) ∙ f .won l (hi - 1) (end - 1) n high (omega (arith, s .ordered)) (omega (arith, s .ordered)));
+              before = λ x a. lost-at (λ (y : ℕ). y < first) (λ k y p b i. f .lost l k y b i (inl p)) x (omega (arith, s .ordered, s .to-last, r .high)) a;
+              after = λ x a b. lost-at (λ (y : ℕ). end ≤ y) (λ k y p d i. f .lost l k y d i (inr p)) x b a;
+            }
+
+        edit : intervals (entry rows col0) cols next ≡ before first (kept w) ++ (interval row first (end - 1) ∷ from end (kept w))
+        edit =
+            let z : end - 1 ≡ pred end = omega arith in
+            rw (c .held .listed, z) (activate-edit (entry rows col0) (length rows) cols m (sound-of (c .held)) row (getD labels row 0) (c .row-new) (c .high) first end at-ends (f .stretch l .ordered))
+
+        pub activated-room : Room w lo hi first end 1
+        unfolding intervals
+        activated-room =
+            let n = cut-lengths w rows col0 labels (laid w rows col0 cols labels m (c .held)) lo hi first end (f .stretch l) in
+            let k : countAfter w lo hi first end 1 ≤ cols =
+            omega (arith, n .0, n .1, simp length-append at (ap length edit), runs-length (available (entry rows col0) next) 0 cols) in
+            record {
+              words = laid w rows col0 cols labels m (c .held) .words;
+              room = omega (arith, c .held .long);
+              small = omega (arith, c .held .checked .inside);
+            }
+
+        pub activated-small : (u : List ℕ) (mid rests : ℕ) → ClearLeaves w u lo hi first end 1 mid rests → Small u row hi first end mid rests
+        activated-small u mid rests k =
+            let s = f .stretch l in
+            let r = run-at w rows col0 cols labels m (c .held) (hi - 1) (omega (arith, s .inside)) in
+            let n : cols ≤ rowPlaces = omega (arith, c .held .checked .inside) in
+            record {
+              room = omega (arith, k .long, k .place, activated-room .room);
+              row-in = omega (arith, c .row-in, c .held .checked .few);
+              some = s .ordered;
+              columns = omega (arith, s .to-last, r .high);
+              few = omega (arith, k .number, restLen-most (firstAt w lo) first, restLen-most end (lastAt w (hi - 1) + 1));
+              places = omega (arith, s .inside, count-most w rows col0 cols labels m (c .held));
+            }
+
+        pub activated-some : (u v : List ℕ) (mid rests : ℕ) → ClearLeaves w u lo hi first end 1 mid rests → PutLeaves u v mid (interval row first (end - 1))
+            → Becomes v rows col0 cols labels m next (rests + 1) (hi - lo)
+        activated-some u v mid rests k p =
+            let g = laid w rows col0 cols labels m (c .held) in
+            let listed : kept v ≡ intervals (entry rows col0) cols next =
+            clear-kept w rows col0 labels g lo hi first end (f .stretch l) u 1 mid rests k v (p .outside) ∙ rw (span-put u v mid (interval row first (end - 1)) p) (sym edit) in
+            becomes w v rows col0 cols labels m (c .held) next (p .outside .long ∙ k .long) (p .outside .marked ∙ k .marked ∙ c .held .marked ∙ marked ∙ sym next-mark) listed next-labels next-reached
+            (rests + 1) (hi - lo)
+            (omega (
+              arith,
+              clear-trims w rows col0 labels g lo hi first end (f .stretch l) u 1 mid rests k,
+              ap (cutAt first) (c .held .listed),
+              ap (cutAt end) (c .held .listed),
+              activate-inserted (entry rows col0) (length rows) cols m (sound-of (c .held)) row (getD labels row 0) (c .row-new) (c .high) first end at-ends (f .stretch l .ordered),
+            ))
+            (omega (arith, p .outside .counted, k .counted, k .number, f .stretch l .inside))
+
+-- ---- an extraction
+
+-- the column found is extracted and answered
+pub record MinExtracted (u : List ℕ) (rows : List (List ℕ)) (col0 cols : ℕ) (labels : List ℕ) (m : Model) (answer : Extraction) (inserted removed : ℕ) : Type 0 where
+  pub changed : Becomes u rows col0 cols labels m (extract m (leastFrom (available (entry rows col0) m) 0 cols)) inserted removed
+  pub answer-is : answerOf answer ≡ extractionOf (leastFrom (available (entry rows col0) m) 0 cols)
+
+abbrev pub ExtractMinLeaves : List ℕ → List ℕ → List (List ℕ) → ℕ → List ℕ → Extraction → ℕ → ℕ → Type 0
+ExtractMinLeaves w u rows col0 labels answer inserted removed =
+    (cols : ℕ) (m : Model) → Holds w rows col0 cols labels m → MinExtracted u rows col0 cols labels m answer inserted removed
+
+module _ (w : List ℕ) (rows : List (List ℕ)) (col0 cols : ℕ) (labels : List ℕ) (m : Model) (h : Holds w rows col0 cols labels m) where
+  pub extracted-none : LeastLeaves w rows col0 labels lowest.Nothing → MinExtracted w rows col0 cols labels m Nothing 0 0
+  unfolding extract
+  extracted-none g =
+      let q : nobody ≡ leastFrom (available (entry rows col0) m) 0 cols = g .found cols m h in
+      record {
+        changed = rw (← q) (becomes w w rows col0 cols labels m h m refl (h .marked) (h .listed) (h .labels-at) (h .reached) 0 0 (sym (countNew-same (intervals (entry rows col0) cols m))) refl);
+        answer-is = rw (← q);
+      }
+
+  module _ (k c : ℕ) (l : k < countOf w) (i : In w k c) where
+    extracted-stretch : Meets w k (k + 1) c (c + 1)
+    extracted-stretch =
+        let z : k + 1 - 1 ≡ k = omega arith in
+        record { some = omega arith; inside = omega arith; from-first = i .0; start = i .1; ordered = omega arith; stop = rw z (omega arith); to-last = rw z (omega arith) }
+
+    pub extracted-inside : (k < rowPlaces) × (c < rowPlaces)
+    extracted-inside = (omega (arith, count-most w rows col0 cols labels m h, h .checked .inside), omega (arith, run-at w rows col0 cols labels m h k l .high, h .checked .inside))
+
+    module _ (s : ℕ) where
+      gone : intervals (entry rows col0) cols (extract m (by c s)) ≡ before c (kept w) ++ from (c + 1) (kept w)
+      gone =
+          let z : c + 1 ≡ suc c = omega arith in
+          rw (h .listed, z) (extract-edit (entry rows col0) cols m c s (omega (arith, run-at w rows col0 cols labels m h k l .high)))
+
+      extracted-room : Room w k (k + 1) c (c + 1) 0
+      unfolding intervals
+      extracted-room =
+          let n = cut-lengths w rows col0 labels (laid w rows col0 cols labels m h) k (k + 1) c (c + 1) extracted-stretch in
+          let x : countAfter w k (k + 1) c (c + 1) 0 ≤ cols = omega (arith, n .0, n .1, simp length-append at (ap length gone), runs-length (available (entry rows col0) (extract m (by c s))) 0 cols) in
+          record { words = laid w rows col0 cols labels m h .words; room = omega (arith, h .long); small = omega (arith, h .checked .inside) }
+
+      pub extracted-needs : CutNeeds w k c
+      extracted-needs = record { inside = l; low = i .0; high = i .1; room = extracted-room }
+
+      pub extracted-some : LeastLeaves w rows col0 labels (At k c s) → (u : List ℕ) (rests : ℕ) → CutLeaves w u k c rests
+          → MinExtracted u rows col0 cols labels m (Column c s) rests 1
+      unfolding extract
+      extracted-some g u rests x =
+          let q : by c s ≡ leastFrom (available (entry rows col0) m) 0 cols = g .found cols m h in
+          let e = laid w rows col0 cols labels m h in
+          let z : c + 1 ≡ suc c = omega arith in
+          let listed : kept u ≡ intervals (entry rows col0) cols (extract m (by c s)) = cut-kept w rows col0 labels e k c l (i .0) (i .1) u rests x ∙ sym gone in
+          let reached : Reached (entry rows col0) (length rows) cols (extract m (by c s)) =
+          rw (step-extract (entry rows col0) (length rows) cols m extraction refl, ← q) at (reached-step (entry rows col0) (length rows) cols m extraction (h .reached)) in
+          let trims : rests ≡ cutAt c (intervals (entry rows col0) cols m) + cutAt (suc c) (intervals (entry rows col0) cols m) =
+          rw (← h .listed, ← z) (cut-trims w rows col0 labels e k c l (i .0) (i .1) u rests x) in
+          record {
+            changed = rw (← q) (becomes w u rows col0 cols labels m h (extract m (by c s)) (x .long) (x .marked ∙ h .marked) listed (h .labels-at) reached rests 1
+                (trims ∙ sym (extract-inserted (entry rows col0) cols m c s (omega (arith, run-at w rows col0 cols labels m h k l .high)))) (omega (arith, x .counted)));
+            answer-is = rw (← q);
+          }

@@ -1,0 +1,102 @@
+// The entries for C and Rust, as one static library. Each promises what the entry that it calls promises; the field reader's value goes to a lent buffer,
+// since an enum does not cross to C.
+ghost use mathlib.Core.Path.{_≡_};
+ghost use Rattle.definitions.specs.Entries.{reading, labelNetwork, session, writeField};
+ghost use Rattle.answer.specs.Listing.{writeListing};
+ghost use Rattle.judgements.specs.LentPieces.{judgeLent};
+ghost use Rattle.engine.specs.Promises.Entries.{PlainSession, PlainLabels};
+ghost use Rattle.exports.specs.Entry.{fieldEntry};
+use bounds::Cause;
+use definitions::Field;
+use definitions::LabelAnswer;
+use definitions::ReadAnswer;
+use definitions::SessionAnswer;
+
+// Six bytes at a place. The value goes to a buffer of one place: one of another size gets 1 and is left, and no field gets 3 and 0.
+#[no_mangle]
+pub extern "C" fn rabdzhine_read_field(text: &[u8], at: usize, value: &mut [u32]) -> u32
+    ensures { λ r. ⌜ record { number = r; value = now (value .exit) } ≡ fieldEntry (now (text .entry)) at (now (value .entry)) ⌝ }
+{
+    if value.len() != 1 {
+        return Cause::BUFFER;
+    }
+    let field = fields::read_field(text, at);
+    let Field::Number(x) = field else {
+        value[0] = 0;
+        return Cause::LAYOUT;
+    };
+    value[0] = x;
+    Cause::NONE
+}
+
+#[no_mangle]
+pub extern "C" fn rabdzhine_write_field(line: &mut [u8], place: usize, x: u32) -> u32
+    ensures number { λ r. ⌜ r ≡ writeField (now (line .entry)) place x .number ⌝ }
+    ensures written { λ _. ⌜ now (line .exit) ≡ writeField (now (line .entry)) place x .line ⌝ }
+{
+    fields::write_field(line, place, x)
+}
+
+#[no_mangle]
+pub extern "C" fn rabdzhine_read_text(
+    text: &[u8],
+    sizes: &mut [u32],
+    vertices: &mut [u32],
+    lengths: &mut [u32],
+) -> ReadAnswer
+    ensures { λ r. ⌜ record { answer = r; sizes = now (sizes .exit); vertices = now (vertices .exit); lengths = now (lengths .exit) } ≡ reading (now (text .entry)) (now (sizes .entry)) (now (vertices .entry)) (now (lengths .entry)) ⌝ }
+{
+    text::read_text(text, sizes, vertices, lengths)
+}
+
+#[no_mangle]
+pub extern "C" fn rabdzhine_check_network(
+    n: u32,
+    p: u32,
+    sizes: &[u32],
+    vertices: &[u32],
+    lengths: &[u32],
+) -> u32
+    ensures { λ r. ⌜ r ≡ judgeLent n p (now (sizes .entry)) (now (vertices .entry)) (now (lengths .entry)) ⌝ }
+{
+    judgements::judge_network(n, p, sizes, vertices, lengths)
+}
+
+#[no_mangle]
+pub extern "C" fn rabdzhine_run_session(
+    rows: u32,
+    cols: u32,
+    count: u32,
+    lengths: &[u32],
+    calls: &[u32],
+    answers: &mut [u32],
+    intervals: &mut [u32],
+) -> SessionAnswer
+    ensures served { λ r. ⌜ record { answer = r; answers = now (answers .exit); intervals = now (intervals .exit) } ≡ session rows cols count (now (lengths .entry)) (now (calls .entry)) (now (answers .entry)) (now (intervals .entry)) ⌝ }
+    ensures plain { λ r. ⌜ (r .number ≡ 0 → PlainSession rows cols count (now (lengths .entry)) (now (calls .entry)) r (now (answers .exit)) (now (intervals .exit))) ⌝ }
+{
+    engine::run_session(rows, cols, count, lengths, calls, answers, intervals)
+}
+
+#[no_mangle]
+pub extern "C" fn rabdzhine_label_network(
+    n: u32,
+    p: u32,
+    sizes: &[u32],
+    vertices: &[u32],
+    lengths: &[u32],
+    source: u32,
+    labels: &mut [u32],
+) -> LabelAnswer
+    ensures labelled { λ r. ⌜ record { answer = r; labels = now (labels .exit) } ≡ labelNetwork n p (now (sizes .entry)) (now (vertices .entry)) (now (lengths .entry)) source (now (labels .entry)) ⌝ }
+    ensures plain { λ r. ⌜ (r .number ≡ 0 → PlainLabels n p (now (sizes .entry)) (now (vertices .entry)) (now (lengths .entry)) source r (now (labels .exit))) ⌝ }
+{
+    engine::label_network(n, p, sizes, vertices, lengths, source, labels)
+}
+
+#[no_mangle]
+pub extern "C" fn rabdzhine_write_listing(text: &[u8], out: &mut [u8]) -> usize
+    ensures { λ r. ⌜ record { written = r; out = now (out .exit) } ≡ writeListing (now (text .entry)) (now (out .entry)) ⌝ }
+{
+    answer::write_listing(text, out)
+}

@@ -1,0 +1,61 @@
+-- `blocks_pass`: the blocks pass exactly if those of the splits that the loop has not passed do.
+use mathlib.Core.Path.{_≡_, refl, sym, _∙_}
+use Prim.Native.Nat.{_-_, _≤_}
+use native.Mathlib.Omega.{arith}
+use borrow.Author.Needs.{needs}
+use borrow.Author.Tests.{not-true, not-false}
+use lib.ListN.{drop}
+use Rattle.definitions.specs.Lists.{every}
+use Rattle.definitions.specs.Blocks.{splitsOf, windows, windowsOf}
+use Rattle.splits.specs.Sizes.{first-small}
+use Rattle.judgements.specs.PieceJudgement.{passesIn}
+use Rattle.judgements.proofs.SplitOrder.{in-order, stopped, went, ended}
+use Rattle.judgements.proofs.blocks_pass.Statement.{statement}
+use Rattle.judgements.proofs.blocks_pass.Tie as tie
+
+abbrev Inv-loop : tie.InvT-loop
+Inv-loop matrix m list first j₀ j =
+    (j ≤ m - 1) × (every (passesIn matrix m) (windowsOf m) ≡ every (passesIn matrix m) (windows (drop j (splitsOf m))))
+
+abbrev μ-loop : tie.MeasureT-loop
+μ-loop matrix m list first j₀ j = m - j
+
+loop-holds : tie.Need-loop-holds Inv-loop μ-loop
+unfolding windowsOf
+loop-holds c = (search needs, refl)
+
+add-split-in : tie.Need-add-split-in Inv-loop μ-loop
+add-split-in c =
+    let s = c .before .before in
+    omega (arith, s .first-split .ensures, first-small (s .before .before .args .m) (s .before .before .pre .1))
+
+split-passes-requires : tie.Need-split-passes-requires Inv-loop μ-loop
+split-passes-requires c κs =
+    let l = c .before .before in
+    let s = l .before .before .before in
+    in-order _ (s .pre .1) _ (s .pre .2) _ (l .before .first-split .ensures) (l .loop .j) (c .before .loop-test .taken) _ (c .split-in .ensures)
+
+returns : tie.Need-returns Inv-loop μ-loop
+returns c =
+    let i = c .before .before in
+    let l = i .before .before in
+    let s = l .before .before .before in
+    stopped _ (s .pre .1) _ (s .pre .2) _ (l .before .first-split .ensures) (l .loop .j) (i .before .loop-test .taken) _ (i .split-in .ensures) _ (l .loop .inv .1) (sym (c .before .split-passes .ensures) ∙ not-true _ (c .if1 .taken))
+
+loop-again : tie.Need-loop-again Inv-loop μ-loop
+loop-again c =
+    let i = c .before .before in
+    let l = i .before .before in
+    let s = l .before .before .before in
+    (search needs, went _ (s .pre .1) _ (s .pre .2) _ (l .before .first-split .ensures) (l .loop .j) (i .before .loop-test .taken) _ (i .split-in .ensures) _ (l .loop .inv .1) (sym (c .before .split-passes .ensures) ∙ not-false _ (c .if1 .left)))
+
+returns-2 : tie.Need-returns-2 Inv-loop μ-loop
+unfolding every windows
+returns-2 c =
+    let s = c .before .before .before .before in
+    rw (c .before .loop .inv .1, ended (s .args .m) (s .pre .1) (c .before .loop .j) (c .loop-test .left))
+
+pub blocks-pass-spec : {M : Type 1} → statement M
+blocks-pass-spec =
+    tie.close (tie.spec Inv-loop μ-loop (λ c κs. search needs) loop-holds (λ c. search needs) add-split-in (λ c κs. search needs)
+    split-passes-requires returns (λ c. search needs) (λ c. search needs) loop-again returns-2)

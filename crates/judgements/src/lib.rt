@@ -1,0 +1,250 @@
+// The checks of document 01 on a piece and on a network, each of which answers 0 or the number of the cause.
+ghost use mathlib.Core.Path.{_≡_};
+ghost use mathlib.Core.List.{[], _∷_};
+ghost use Prim.Native.Nat.{_≤_};
+ghost use lib.ListN.{length};
+ghost use Rattle.definitions.specs.Limits.{maxPieces, maxSize, sizePlaces, vertexPlaces, lengthPlaces, tablePlaces};
+ghost use Rattle.definitions.specs.Lists.{every, mem, within};
+ghost use Rattle.definitions.specs.Blocks.{allSplits, windows, windowsOf};
+ghost use Rattle.definitions.specs.Judgement.{judgeBounds, judgeSize, judgeVertices, judgeRow, judgeRows, judgeFrom, judgeSource};
+ghost use Rattle.definitions.specs.Entries.{judgeBuffers};
+ghost use Rattle.splits.specs.Table.{flattened, splitOf};
+ghost use Rattle.splits.specs.Sizes.{Cut};
+ghost use Rattle.monge.specs.Matrix.{rowsIn};
+ghost use Rattle.judgements.specs.LentPieces.{judgeTable, judgePieceIn, judgeLent};
+ghost use Rattle.judgements.specs.PieceJudgement.{passesIn};
+use bounds::Cause;
+use bounds::Network;
+use splits::Split;
+
+// ---- numbers
+
+// Whether x lies from 1 to a bound.
+pub fn is_within(bound: u32, x: u32) -> bool
+    ensures { λ r. ⌜ r ≡ within bound x ⌝ }
+{
+    1 <= x && x <= bound
+}
+
+// n and p, else 4.
+pub fn judge_bounds(n: u32, p: u32) -> u32
+    ensures { λ r. ⌜ r ≡ judgeBounds n p ⌝ }
+{
+    if is_within(Network::MAX_VERTICES, n) && is_within(Network::MAX_PIECES, p) {
+        return Cause::NONE;
+    }
+    Cause::BOUNDS
+}
+
+// The size of a piece, else 4.
+pub fn judge_size(m: u32) -> u32
+    ensures { λ r. ⌜ r ≡ judgeSize m ⌝ }
+{
+    if is_within(Network::MAX_SIZE, m) {
+        return Cause::NONE;
+    }
+    Cause::BOUNDS
+}
+
+// The source, else 8.
+pub fn judge_source(n: u32, source: u32) -> u32
+    ensures { λ r. ⌜ r ≡ judgeSource n source ⌝ }
+{
+    if is_within(n, source) {
+        return Cause::NONE;
+    }
+    Cause::SOURCE
+}
+
+// ---- the lines of a piece
+
+// Whether x is a member.
+fn stands_in(xs: &[u32], x: u32) -> bool
+    ensures { λ r. ⌜ r ≡ mem x (now (xs .entry)) ⌝ }
+{
+    let mut i = 0;
+    while i < xs.len() {
+        if x == xs[i] {
+            return true;
+        }
+        i += 1;
+    }
+    false
+}
+
+// The vertices of a piece, else 5: each lies from 1 to n and is not among those after it.
+pub fn judge_vertices(n: u32, vertices: &[u32]) -> u32
+    ensures { λ r. ⌜ r ≡ judgeVertices n (now (vertices .entry)) ⌝ }
+{
+    let mut i = 0;
+    while i < vertices.len() {
+        let v = vertices[i];
+        i += 1;
+        if !is_within(n, v) || stands_in(&vertices[i..], v) {
+            return Cause::VERTEX;
+        }
+    }
+    Cause::NONE
+}
+
+// Row i of a table, else 6. A row with no place i has nothing on the diagonal.
+pub fn judge_row(i: usize, row: &[u32]) -> u32
+    ensures { λ r. ⌜ r ≡ judgeRow i (now (row .entry)) ⌝ }
+{
+    let mut k = 0;
+    while k < row.len() {
+        if row[k] > Network::MAX_LENGTH {
+            return Cause::LENGTH;
+        }
+        k += 1;
+    }
+    if i < row.len() && row[i] != 0 {
+        return Cause::LENGTH;
+    }
+    Cause::NONE
+}
+
+// ---- the blocks of a piece
+
+// Whether both blocks of a split pass, in the reversed matrix of a piece of m places: columns count from its end.
+fn split_passes(matrix: &[[u32; Network::ROW_PLACES]], m: usize, split: Split) -> bool
+    requires { ⌜ Cut m (splitOf split) ⌝ }
+    ensures { λ r. ⌜ r ≡ every (passesIn (now (matrix .entry)) m) (windows (splitOf split ∷ [])) ⌝ }
+{
+    let low = split.middle - split.first;
+    let high = split.end - split.middle;
+    monge::is_monge(matrix, split.first, m - split.end, low, high)
+        && monge::is_monge(matrix, split.middle, m - split.middle, high, low)
+}
+
+// Whether every block of a piece of m places passes in its reversed matrix; `list` is the list of splits.
+fn blocks_pass(matrix: &[[u32; Network::ROW_PLACES]], m: usize, list: &[u8]) -> bool
+    requires { ⌜ (1 ≤ m) × (m ≤ maxSize) × (now list ≡ flattened allSplits) ⌝ }
+    ensures { λ r. ⌜ r ≡ every (passesIn (now (matrix .entry)) m) (windowsOf m) ⌝ }
+{
+    let first = splits::first_split(m);
+    let mut j = 0;
+    while j + 1 < m {
+        let split = splits::split_in(list, first + j);
+        if !split_passes(matrix, m, split) {
+            return false;
+        }
+        j += 1;
+    }
+    true
+}
+
+// The blocks of a piece of size m whose table stands in the places of one table, else 7.
+pub fn judge_blocks(m: u32, lengths: &[u32]) -> u32
+    ensures { λ r. ⌜ r ≡ judgeTable m (now (lengths .entry)) ⌝ }
+{
+    if lengths.len() != Network::TABLE_PLACES {
+        return Cause::BUFFER;
+    }
+    let cause = judge_size(m);
+    if cause != Cause::NONE {
+        return cause;
+    }
+    let matrix = monge::reversed(m, lengths);
+    let list = splits::table();
+    if blocks_pass(&matrix, m as usize, &list) {
+        return Cause::NONE;
+    }
+    Cause::BLOCK
+}
+
+// ---- a piece and a network in lent buffers
+
+// The rows of a table of size m, in the places of one table.
+fn judge_rows(m: usize, lengths: &[u32]) -> u32
+    requires { ⌜ (m ≤ maxSize) × (length (now lengths) ≡ tablePlaces) ⌝ }
+    ensures { λ r. ⌜ r ≡ judgeRows 0 (rowsIn m (now (lengths .entry))) ⌝ }
+{
+    let mut i = 0;
+    while i < m {
+        let start = Network::ROW_PLACES * i;
+        let cause = judge_row(i, &lengths[start..start + m]);
+        if cause != Cause::NONE {
+            return cause;
+        }
+        i += 1;
+    }
+    Cause::NONE
+}
+
+// A piece of size m in a network of n vertices, in the places of one row and of one table.
+pub fn judge_piece(n: u32, m: u32, vertices: &[u32], lengths: &[u32]) -> u32
+    ensures { λ r. ⌜ r ≡ judgePieceIn n m (now (vertices .entry)) (now (lengths .entry)) ⌝ }
+{
+    if vertices.len() != Network::ROW_PLACES || lengths.len() != Network::TABLE_PLACES {
+        return Cause::BUFFER;
+    }
+    let size = judge_size(m);
+    if size != Cause::NONE {
+        return size;
+    }
+    let used = m as usize;
+    let line = judge_vertices(n, &vertices[..used]);
+    if line != Cause::NONE {
+        return line;
+    }
+    let rows = judge_rows(used, lengths);
+    if rows != Cause::NONE {
+        return rows;
+    }
+    judge_blocks(m, lengths)
+}
+
+// How many places the lent buffers of a network have.
+pub fn judge_buffers(sizes: usize, vertices: usize, lengths: usize) -> u32
+    ensures { λ r. ⌜ r ≡ judgeBuffers sizes vertices lengths ⌝ }
+{
+    if sizes != Network::SIZE_PLACES {
+        return Cause::BUFFER;
+    }
+    if vertices != Network::VERTEX_PLACES {
+        return Cause::BUFFER;
+    }
+    if lengths != Network::LENGTH_PLACES {
+        return Cause::BUFFER;
+    }
+    Cause::NONE
+}
+
+// The pieces of a network, in order.
+fn judge_pieces(n: u32, p: usize, sizes: &[u32], vertices: &[u32], lengths: &[u32]) -> u32
+    requires { ⌜ (p ≤ maxPieces) × (length (now sizes) ≡ sizePlaces) × (length (now vertices) ≡ vertexPlaces) × (length (now lengths) ≡ lengthPlaces) ⌝ }
+    ensures { λ r. ⌜ r ≡ judgeFrom n (now (sizes .entry)) (now (vertices .entry)) (now (lengths .entry)) 0 p ⌝ }
+{
+    let mut d = 0;
+    while d < p {
+        let v = Network::ROW_PLACES * d;
+        let l = Network::TABLE_PLACES * d;
+        let cause = judge_piece(
+            n,
+            sizes[d],
+            &vertices[v..v + Network::ROW_PLACES],
+            &lengths[l..l + Network::TABLE_PLACES],
+        );
+        if cause != Cause::NONE {
+            return cause;
+        }
+        d += 1;
+    }
+    Cause::NONE
+}
+
+// A network in its lent buffers: piece by piece, and no place that its sizes do not use is read.
+pub fn judge_network(n: u32, p: u32, sizes: &[u32], vertices: &[u32], lengths: &[u32]) -> u32
+    ensures { λ r. ⌜ r ≡ judgeLent n p (now (sizes .entry)) (now (vertices .entry)) (now (lengths .entry)) ⌝ }
+{
+    let buffers = judge_buffers(sizes.len(), vertices.len(), lengths.len());
+    if buffers != Cause::NONE {
+        return buffers;
+    }
+    let bounds = judge_bounds(n, p);
+    if bounds != Cause::NONE {
+        return bounds;
+    }
+    judge_pieces(n, p as usize, sizes, vertices, lengths)
+}
