@@ -1,5 +1,4 @@
 -- What the listing's writer leaves, and the laws of its parts.
-pub mod Listing
 pub mod Output
 pub mod Lines
 pub mod Refusals

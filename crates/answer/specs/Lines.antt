@@ -13,11 +13,10 @@ use lib.ListN.{getD, length, take, drop, length-append}
 use lib.Seq.{take-at, take-all, take-suc, length-take-le}
 use Rattle.definitions.specs.Limits.{columnBytes, lineFields, linePlaces, lastPlace}
 use Rattle.definitions.specs.Lists.{upFrom, firstCause}
-use Rattle.definitions.specs.Text.{blank, lineEnd}
-use Rattle.definitions.specs.Entries.{hasPlaces, decimal, nineColumns, judgeWrite, writeField, listingLine, refusalLine}
+use Rattle.definitions.specs.Fields.{blank, lineEnd, decimal, nineColumns}
+use Rattle.definitions.specs.Entries.{hasPlaces, judgeWrite, writeField, listingLine, refusalLine, listingLineBytes}
 use Rattle.fields.specs.NineColumns.{length-nineColumns, maxDigits, decimal-few}
 use Rattle.basics.specs.Buffers.{flatMap-snoc, put, put-nothing}
-use Rattle.answer.specs.Listing.{listingLineBytes}
 use Rattle.answer.specs.Output.{Put, put-then}
 
 length-fields : (xs : List ℕ) → length (flatMap nineColumns xs) ≡ columnBytes * length xs

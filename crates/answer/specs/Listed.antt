@@ -18,8 +18,9 @@ use Rattle.definitions.specs.Limits.{maxVertices, sizePlaces, vertexPlaces, len
 use Rattle.definitions.specs.Lists.{upFrom, firstCause, Every}
 use Rattle.definitions.specs.Blocks.{blocks}
 use Rattle.definitions.specs.Labelling.{State, labelOf, labelling, heldLabel, labels}
-use Rattle.definitions.specs.Text.{Read, refused, value, require, Plan, readPlan, judgeLength, readText, sizesOf, verticesOf, lengthsOf}
-use Rattle.definitions.specs.Entries.{AfterRead, AfterLabel, hasPlaces, judgeBuffers, readRefusal, afterRead, reading, judgeLabelling, labelAnswer, labelNetwork, listingLine, refusalLine, stateListing, planListing, listing}
+use Rattle.definitions.specs.Reading.{Read, refused, value, require, Plan, readPlan}
+use Rattle.definitions.specs.Text.{judgeLength, readText, sizesOf, verticesOf, lengthsOf}
+use Rattle.definitions.specs.Entries.{AfterRead, AfterLabel, hasPlaces, judgeBuffers, readRefusal, afterRead, reading, judgeLabelling, labelAnswer, labelNetwork, listingLine, refusalLine, stateListing, planListing, listing, listingPlaces, AfterListing, writeListing}
 use Rattle.basics.specs.Tests.{Truth, holds, fails, truth}
 use Rattle.basics.specs.ListLaws.{every-imp}
 use Rattle.basics.specs.Causes.{bounds-in}
@@ -29,7 +30,6 @@ use Rattle.text.specs.PieceReading.{Shaped, Room, sizes-long, vertices-full, le
 use Rattle.text.specs.Back.{pieces-back}
 use Rattle.text.specs.Plans.{planAnswer, After as AfterReading}
 use Rattle.text.specs.Accepted.{Accepted, Sound, plan-accepted, network-accepted}
-use Rattle.answer.specs.Listing.{listingPlaces, AfterListing, writeListing}
 use Rattle.basics.specs.Buffers.{put}
 use Rattle.answer.specs.Output.{Put}
 use Rattle.answer.specs.Refusals.{Numbered, numbered-text}

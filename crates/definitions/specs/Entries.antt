@@ -1,27 +1,33 @@
--- What each entry returns and leaves in each lent buffer, for every input.
+-- What each entry returns and leaves in each lent buffer, for every input. The causes are those of document 01, "Causes that turn an input away".
 --   session          a session on one block
 --   labelNetwork     the labelling of a lent network
+--   judgeLent        the judgement of a lent network
 --   reading          the text reader
+--   fieldEntry       the six-column field reader, as it is exported
 --   writeField       the nine-column field writer
 --   listing          what the program `labels` writes
-use mathlib.Core.Bool.{Bool, true, false, cond, _&&_}
+--   writeListing     the same in a lent buffer
+use mathlib.Core.Bool.{Bool, cond, _&&_}
 use mathlib.Core.List.{List, [], _∷_, _++_, map, flatMap}
-use Prim.Native.Nat.{ℕ, zero, suc, _+_, _-_, _*_, _/_, _%_}
-use lib.Dec.{eqb, leb, ltb}
+use Prim.Native.Nat.{ℕ, _+_, _*_}
+use lib.Dec.{eqb, leb}
 use lib.ListN.{getD, length, take, drop, replicate}
 use Rattle.definitions.specs.declared.ReadAnswer.{ReadAnswer}
 use Rattle.definitions.specs.declared.LabelAnswer.{LabelAnswer}
 use Rattle.definitions.specs.declared.SessionAnswer.{SessionAnswer}
-use Rattle.definitions.specs.Limits.{maxLength, maxSide, maxCalls, sizePlaces, vertexPlaces, lengthPlaces, rowPlaces, labelPlaces, rectanglePlaces, callPlaces, answerPlaces, intervalPlaces, callSize, answerSize, columnBytes, linePlaces, lastPlace, unusedInterval}
+use Rattle.definitions.specs.Limits.{maxVertices, maxLength, maxSide, maxCalls, sizePlaces, vertexPlaces, lengthPlaces, rowPlaces, labelPlaces, rectanglePlaces, callPlaces, answerPlaces, intervalPlaces, callSize, answerSize, columnBytes, lineFields, linePlaces, lastPlace, unusedInterval}
 use Rattle.definitions.specs.Lists.{all, upFrom, padded, within, firstCause}
 use Rattle.definitions.specs.Network.{Rectangle}
 use Rattle.definitions.specs.Blocks.{isMonge, blocks}
-use Rattle.definitions.specs.Model.{Interval, interval, intervals, Call, Answer, trace}
+use Rattle.definitions.specs.Intervals.{Interval, interval}
+use Rattle.definitions.specs.Model.{intervals, Call, Answer, trace}
 use Rattle.definitions.specs.Labelling.{State, labelOf, labelling, reached, extractions, insertions, heldLabel, labels}
 use Rattle.definitions.specs.Judgement.{judgeSource, piecesOf, judgeNetwork}
-use Rattle.definitions.specs.Text.{blank, lineEnd, Read, refused, value, Plan, readPlan, judgeLength, readText, sizesOf, verticesOf, lengthsOf}
+use Rattle.definitions.specs.Fields.{blank, lineEnd, fieldAt, decimal, nineColumns}
+use Rattle.definitions.specs.Reading.{Read, refused, value, Plan, readPlan}
+use Rattle.definitions.specs.Text.{judgeLength, readText, sizesOf, verticesOf, lengthsOf}
 
--- "a lent buffer not of the stated size": does this one have it
+-- a lent buffer has its size; if not, the cause is 1
 unfoldable pub hasPlaces : ℕ → List ℕ → Bool
 hasPlaces size buffer = eqb (length buffer) size
 
@@ -37,11 +43,11 @@ pub record AfterSession : Type 0 where
   pub answers : List ℕ
   pub intervals : List ℕ
 
--- the lent rectangle, "24 rows of 24"
+-- the lent rectangle, 24 places for each row
 unfoldable pub rectangleOf : List ℕ → Rectangle
 rectangleOf lengths i k = getD lengths (rowPlaces * i + k) 0
 
--- "A session judges 1, 4, 6, 7; its rectangle has no diagonal"; unused places are not read
+-- The buffers, the sizes and the number of calls, the lengths, the inequality. Only rows and columns in use are looked at.
 unfoldable pub judgeSession : ℕ → ℕ → ℕ → List ℕ → List ℕ → List ℕ → List ℕ → ℕ
 judgeSession rows cols count lengths calls answers kept =
     let e = rectangleOf lengths in
@@ -63,7 +69,7 @@ callsOf calls count = map (callAt calls) (upFrom 0 count)
 abbrev pub answerNumbers : Answer → List ℕ
 answerNumbers a = a .code ∷ a .column ∷ a .sum ∷ []
 
--- "answers 192 (unused places 0)"
+-- the answer buffer; unused places are 0
 unfoldable pub answersOf : List Answer → List ℕ
 answersOf answers = padded answerPlaces 0 (flatMap answerNumbers answers)
 
@@ -78,19 +84,19 @@ answersIn answers count = map (answerAt answers) (upFrom 0 count)
 abbrev pub intervalNumbers : Interval → List ℕ
 intervalNumbers (interval p f l) = p ∷ f ∷ l ∷ []
 
--- "their order is open": the program's order of the kept intervals is that of `intervals`, and `Rising`: each begins after the one before it ends
+-- 01 leaves the order of the kept intervals to the program: it is that of `intervals`, by rising column
 abbrev pub keptOrder : List Interval → List Interval
 keptOrder kept = kept
 
--- "the kept intervals from its front, unused places 255"
+-- the interval buffer
 unfoldable pub intervalsOf : List Interval → List ℕ
 intervalsOf kept = padded intervalPlaces unusedInterval (flatMap intervalNumbers (keptOrder kept))
 
--- "number, counts 0"
+-- a refusal returns its number and counts of 0
 abbrev pub sessionRefusal : ℕ → SessionAnswer
 sessionRefusal k = record { number = k; inserted = 0; removed = 0 }
 
--- a refusal leaves every buffer
+-- the calls on a fresh model; a refusal leaves both buffers
 unfoldable pub session : ℕ → ℕ → ℕ → List ℕ → List ℕ → List ℕ → List ℕ → AfterSession
 session rows cols count lengths calls answers kept =
     let cause = judgeSession rows cols count lengths calls answers kept in
@@ -110,7 +116,7 @@ pub record AfterLabel : Type 0 where
   pub answer : LabelAnswer
   pub labels : List ℕ
 
--- 1, then "Labelling repeats 4 to 7 on the network it is lent, then 8"
+-- the buffers, the network, the source
 unfoldable pub judgeLabelling : ℕ → ℕ → List ℕ → List ℕ → List ℕ → ℕ → List ℕ → ℕ
 judgeLabelling n p sizes vertices lengths source buffer =
     firstCause (cond (hasPlaces labelPlaces buffer) 0 1
@@ -119,11 +125,11 @@ judgeLabelling n p sizes vertices lengths source buffer =
     ∷ judgeSource n source
     ∷ [])
 
--- what an accepted labelling returns: "the gates reached, takes and brought in"
+-- what an accepted labelling returns: vertices reached, columns extracted, intervals inserted
 unfoldable pub labelAnswer : State → LabelAnswer
 labelAnswer st = record { number = 0; reached = reached st; extracted = extractions st; inserted = insertions st }
 
--- "number, counts 0"
+-- a refusal returns its number and counts of 0
 abbrev pub labelRefusal : ℕ → LabelAnswer
 labelRefusal k = record { number = k; reached = 0; extracted = 0; inserted = 0 }
 
@@ -135,6 +141,12 @@ labelNetwork n p sizes vertices lengths source buffer =
     let done : AfterLabel = record { answer = labelAnswer st; labels = labels st } in
     cond (eqb cause 0) done (record { answer = labelRefusal cause; labels = buffer })
 
+-- ---- the judgement alone
+
+-- the buffers, then the network
+unfoldable pub judgeLent : ℕ → ℕ → List ℕ → List ℕ → List ℕ → ℕ
+judgeLent n p sizes vertices lengths = firstCause (judgeBuffers (length sizes) (length vertices) (length lengths) ∷ judgeNetwork n p sizes vertices lengths ∷ [])
+
 -- ---- the text reader
 
 -- what it returns, and what stands in its three buffers
@@ -144,11 +156,11 @@ pub record AfterRead : Type 0 where
   pub vertices : List ℕ
   pub lengths : List ℕ
 
--- "number, counts 0"
+-- a refusal returns its number and counts of 0
 abbrev pub readRefusal : ℕ → ReadAnswer
 readRefusal k = record { number = k; n = 0; p = 0; source = 0 }
 
--- "none: reader's buffers all 0" for 3 to 8
+-- a refusal by 3 to 8 leaves 0 everywhere
 unfoldable pub afterRead : Read Plan → AfterRead
 afterRead (refused k) = record {
   answer = readRefusal k;
@@ -163,7 +175,7 @@ afterRead (value plan) = record {
   lengths = lengthsOf (plan .pieces);
 }
 
--- "Order: 1, 2, then the text"; 1 and 2 leave every buffer
+-- the buffers, the length of the text, the text; 1 and 2 leave the buffers
 unfoldable pub reading : List ℕ → List ℕ → List ℕ → List ℕ → AfterRead
 reading text sizes vertices lengths =
     let cause = firstCause (judgeBuffers (length sizes) (length vertices) (length lengths) ∷ judgeLength text ∷ []) in
@@ -171,34 +183,24 @@ reading text sizes vertices lengths =
     (afterRead (readPlan text))
     (record { answer = readRefusal cause; sizes = sizes; vertices = vertices; lengths = lengths })
 
--- ---- fields of nine columns
+-- ---- the exported field reader
 
--- the decimal digits of a number, as bytes; `fuel` bounds how many
-unfoldable pub digitsOf : ℕ → ℕ → List ℕ
-digitsOf zero x = []
-digitsOf (suc fuel) x = elim (ltb x 10) [ true ↦ (48 + x) ∷ [] | false ↦ digitsOf fuel (x / 10) ++ ((48 + x % 10) ∷ []) ]
+-- the number returned, and what stands in the buffer
+pub record AfterField : Type 0 where
+  pub number : ℕ
+  pub value : List ℕ
 
--- ten digits hold every number of 32 bits
-unfoldable pub decimal : ℕ → List ℕ
-decimal x = digitsOf 10 x
+-- An enum does not cross to C: the number is returned, and the value left in a buffer of one place; 0 where there is no field. A buffer of
+-- another size is left.
+unfoldable pub fieldEntry : List ℕ → ℕ → List ℕ → AfterField
+fieldEntry text at buffer =
+    cond (hasPlaces 1 buffer)
+    (record { number = (fieldAt text at) .number; value = (fieldAt text at) .value ∷ [] })
+    (record { number = 1; value = buffer })
 
--- the byte `-`
-abbrev pub dash : ℕ
-dash = 45
+-- ---- the field writer
 
--- the largest number that nine columns hold
-abbrev pub maxColumn : ℕ
-maxColumn = 999999999
-
--- "right-justified"
-unfoldable pub rightJustified : ℕ → List ℕ → List ℕ
-rightJustified size bytes = replicate (size - length bytes) blank ++ bytes
-
--- "a number above 999,999,999 is written `-`"
-unfoldable pub nineColumns : ℕ → List ℕ
-nineColumns x = rightJustified columnBytes (cond (leb x maxColumn) (decimal x) (dash ∷ []))
-
--- "The field writer judges 1, then 4, and leaves its line"
+-- the line, then the place
 unfoldable pub judgeWrite : List ℕ → ℕ → ℕ
 judgeWrite line place = firstCause (cond (hasPlaces linePlaces line) 0 1 ∷ cond (leb place lastPlace) 0 4 ∷ [])
 
@@ -207,7 +209,7 @@ pub record AfterWrite : Type 0 where
   pub number : ℕ
   pub line : List ℕ
 
--- "A field is written into its own nine columns of the lent line"
+-- the nine columns at the place are written, the others stay; a refusal leaves the line
 unfoldable pub writeField : List ℕ → ℕ → ℕ → AfterWrite
 writeField line place x =
     let cause = judgeWrite line place in
@@ -220,12 +222,12 @@ writeField line place x =
 unfoldable pub listingLine : List ℕ → List ℕ
 listingLine xs = flatMap nineColumns xs ++ (lineEnd ∷ [])
 
--- "A refusal is one line: `refused`, a blank, the number"
+-- the bytes of `refused`, a blank, the number
 unfoldable pub refusalLine : ℕ → List ℕ
 refusalLine k = 114 ∷ 101 ∷ 102 ∷ 117 ∷ 115 ∷ 101 ∷ 100 ∷ blank ∷ (decimal k ++ (lineEnd ∷ []))
 
--- "a line of source, gates reached (the source too), takes, intervals brought in; then for gates 1 to n a line of gate and label,
--- `-` for unreached": 4,294,967,295 is above 999,999,999
+-- A line of the source and the three counts; then a line for each vertex with its label. `unreached` is more than nine columns hold, so it is
+-- written as `-`.
 unfoldable pub stateListing : ℕ → ℕ → State → List ℕ
 stateListing n source st =
     listingLine (source ∷ reached st ∷ extractions st ∷ insertions st ∷ [])
@@ -239,3 +241,25 @@ planListing (value plan) = stateListing (plan .n) (plan .source) (labelling (blo
 -- what `labels` writes for the bytes that it reads
 unfoldable pub listing : List ℕ → List ℕ
 listing text = planListing (readText text)
+
+-- ---- the listing in a lent buffer
+
+-- the bytes of a line of k fields of nine columns
+abbrev pub listingLineBytes : ℕ → ℕ
+listingLineBytes k = columnBytes * k + 1
+
+-- room for the longest listing, 4,901 bytes: a line of four fields, and one of two for each vertex
+abbrev pub listingPlaces : ℕ
+listingPlaces = listingLineBytes lineFields + maxVertices * listingLineBytes 2
+
+-- how many bytes were written, and what stands in the output buffer
+pub record AfterListing : Type 0 where
+  pub written : ℕ
+  pub out : List ℕ
+
+-- The listing stands at the front, and behind it what stood there before. A buffer of another size is left, and no byte is written.
+unfoldable pub writeListing : List ℕ → List ℕ → AfterListing
+writeListing text out =
+    cond (hasPlaces listingPlaces out)
+    (record { written = length (listing text); out = listing text ++ drop (length (listing text)) out })
+    (record { written = 0; out = out })

@@ -9,11 +9,15 @@ use Rattle.definitions.specs.Limits.{sizePlaces, vertexPlaces, lengthPla
 use Rattle.definitions.specs.Lists.{all, every, mem, different, total, upFrom, downTo, padded, within, firstCause}
 use Rattle.definitions.specs.Network.{entry, sizeOf}
 use Rattle.definitions.specs.Blocks.{splits, splitsOf, windows, windowsOf, rowsOf, columnsOf, corners, isMonge, Block, blockOf, blocksOf, blocks, noBlock, passes}
-use Rattle.definitions.specs.Model.{lesser, least, through, parent, available, placed, leastFrom, adjoins, joined, prepend, prependColumn, runs, intervals, sameInterval, isKept, countNew, isActivated, judge, activate, extract, step, extend, traceFrom, trace}
+use Rattle.definitions.specs.Best.{lesser, least, placed, leastFrom}
+use Rattle.definitions.specs.Intervals.{adjoins, joined, prepend, prependColumn, runs, sameInterval, isKept, countNew}
+use Rattle.definitions.specs.Model.{through, parent, available, intervals, isActivated, judge, activate, extract, step, extend, traceFrom, trace}
 use Rattle.definitions.specs.Labelling.{freshBlock, apply, leastOf, placeOf, activateAt, activateVertex, labelOf, settleAs, settle, chosen, placeIn, extractFrom, advance, steps, start, columns, labelling, reached, extractions, insertions, heldLabel, labels}
 use Rattle.definitions.specs.Judgement.{judgeBounds, judgeSize, judgeVertices, judgeRow, judgeRows, judgeBlocks, judgeSource, judgePiece, pieceAt, piecesOf, judgeFrom, judgeNetwork}
-use Rattle.definitions.specs.Text.{Read, refused, value, Plan, isDigit, skipBlanks, isNumeral, numeralValue, fieldOf, fieldAt, lengthAt, readField, readFields, judgeLineEnd, readLine, readRows, readPiece, pieceBytes, readPieces, judgeEnd, readBody, readPlan, judgeLength, readText, sizesOf, verticesOf, tableOf, lengthsOf}
-use Rattle.definitions.specs.Entries.{AfterRead, AfterLabel, AfterSession, hasPlaces, judgeBuffers, afterRead, reading, judgeLabelling, labelAnswer, labelNetwork, rectangleOf, judgeSession, callAt, callsOf, answersOf, intervalsOf, session, digitsOf, decimal, rightJustified, nineColumns, listingLine, refusalLine, stateListing, planListing, listing}
+use Rattle.definitions.specs.Fields.{isDigit, skipBlanks, isNumeral, numeralValue, fieldOf, fieldAt, lengthAt, digitsOf, decimal, rightJustified, nineColumns}
+use Rattle.definitions.specs.Reading.{Read, refused, value, Plan, readField, readFields, judgeLineEnd, readLine, readRows, readPiece, pieceBytes, readPieces, judgeEnd, readBody, readPlan}
+use Rattle.definitions.specs.Text.{judgeLength, readText, sizesOf, verticesOf, tableOf, lengthsOf}
+use Rattle.definitions.specs.Entries.{AfterRead, AfterLabel, AfterSession, hasPlaces, judgeBuffers, afterRead, reading, judgeLabelling, labelAnswer, labelNetwork, rectangleOf, judgeSession, callAt, callsOf, answersOf, intervalsOf, session, listingLine, refusalLine, stateListing, planListing, listing}
 
 -- ---- the texts
 

@@ -1,4 +1,4 @@
--- The limits and bounds of document 01, one definition each, and the two operations on lengths.
+-- The limits of document 01, each number under one name, and the two operations on lengths. What follows from another number is computed from it.
 --   maxVertices maxPieces maxSize maxLength maxLabel   of a network
 --   maxSide maxCalls maxText                           of a session and of a text
 --   rowPlaces .. intervalPlaces, linePlaces            the sizes of the lent buffers
@@ -6,11 +6,12 @@
 --   callSize answerSize intervalSize                   how many numbers a call, an answer and an interval are
 --   unreached unusedInterval                           what stands where there is no label, no interval
 --   sum below                                          a label and a length; the order of sums
+-- Each comment names the section of 01 that the lines below it state.
 use mathlib.Core.Bool.{Bool}
 use Prim.Native.Nat.{ℕ, _+_, _-_, _*_}
 use lib.Dec.{ltb}
 
--- "n from 1 to 256; p from 1 to 16; m from 1 to 24; a length from 0 to 99,999"
+-- (01, The tables and what is made of them) n, p, m and a length are at most these; n, p and m are at least 1.
 abbrev pub maxVertices : ℕ
 maxVertices = 256
 
@@ -23,29 +24,29 @@ maxSize = 24
 abbrev pub maxLength : ℕ
 maxLength = 99999
 
--- "A label is then at most 255 × 99,999 = 25,499,745"; the limit of a told value too
+-- A shortest walk has at most one arc fewer than there are vertices. No activation may bring a larger label.
 abbrev pub maxLabel : ℕ
 maxLabel = (maxVertices - 1) * maxLength
 
--- "A session holds a rectangle of 1 to 24 rows and 1 to 24 columns, 0 to 64 calls"
+-- (01, The heap of one block) The sides of a session's rectangle, at most those of a piece's table, and its calls.
 abbrev pub maxSide : ℕ
-maxSide = 24
+maxSide = maxSize
 
 abbrev pub maxCalls : ℕ
 maxCalls = 64
 
--- "The text is at most 60,000 bytes"
+-- (01, Text layout) The bytes of a text.
 abbrev pub maxText : ℕ
 maxText = 60000
 
--- the places of one row and of one district's table in the buffers below
+-- The places of one row and of one piece's table in the buffers below.
 abbrev pub rowPlaces : ℕ
 rowPlaces = maxSize
 
 abbrev pub tablePlaces : ℕ
 tablePlaces = maxSize * rowPlaces
 
--- "16 district sizes, 384 gates (24 for each district) and 9,216 lengths (24 rows of 24 each)"
+-- (01, Text layout) The buffers of a network: 16 sizes, 384 vertices, 9,216 lengths.
 abbrev pub sizePlaces : ℕ
 sizePlaces = maxPieces
 
@@ -55,11 +56,11 @@ vertexPlaces = maxPieces * rowPlaces
 abbrev pub lengthPlaces : ℕ
 lengthPlaces = maxPieces * tablePlaces
 
--- "The label buffer has 256 places"
+-- (01, The labelling) The label buffer.
 abbrev pub labelPlaces : ℕ
 labelPlaces = maxVertices
 
--- "Each call is (kind, row, value)"; "Each answer is (code, column, sum)"; "An interval is (owner, first column, last column)"
+-- (01, The heap of one block) Three numbers are a call, an answer, an interval.
 abbrev pub callSize : ℕ
 callSize = 3
 
@@ -69,7 +70,7 @@ answerSize = 3
 abbrev pub intervalSize : ℕ
 intervalSize = 3
 
--- "Lent sizes: rectangle 576 (24 rows of 24), calls 192, answers 192 (unused places 0), intervals 72"
+-- (01, The heap of one block) A session's buffers: 576 lengths, 192 numbers of calls and of answers, 72 of intervals.
 abbrev pub rectanglePlaces : ℕ
 rectanglePlaces = maxSide * rowPlaces
 
@@ -79,15 +80,14 @@ callPlaces = callSize * maxCalls
 abbrev pub answerPlaces : ℕ
 answerPlaces = answerSize * maxCalls
 
--- no two intervals share a column
+-- no two intervals share a column, so there is room for all
 abbrev pub intervalPlaces : ℕ
 intervalPlaces = intervalSize * maxSide
 
--- "nine columns"
+-- (01, Text layout) A field that is written has nine columns; a lent line has four such fields, at the places 0 to 3.
 abbrev pub columnBytes : ℕ
 columnBytes = 9
 
--- "the lent line, 36 bytes with four places counted from 0"
 abbrev pub lineFields : ℕ
 lineFields = 4
 
@@ -97,18 +97,18 @@ linePlaces = lineFields * columnBytes
 abbrev pub lastPlace : ℕ
 lastPlace = lineFields - 1
 
--- "holds 4,294,967,295 for an unreached gate and for places above n"
+-- (01, The labelling) It stands where no label is: the largest number of 32 bits.
 abbrev pub unreached : ℕ
 unreached = 4294967295
 
--- "the kept intervals from its front, unused places 255"
+-- (01, The heap of one block) It fills the unused places of the interval buffer.
 abbrev pub unusedInterval : ℕ
 unusedInterval = 255
 
--- "A column's sum through a told row is the row's value plus the entry"
+-- (01, The heap of one block) A column's sum through a row is the row's label plus the entry.
 abbrev pub sum : ℕ → ℕ → ℕ
 sum label length = label + length
 
--- "a strictly smaller sum"
+-- A later sum wins only where it is strictly smaller.
 abbrev pub below : ℕ → ℕ → Bool
 below a b = ltb a b

@@ -2,13 +2,13 @@
 -- A relation that belongs to a function f is named after it: FNeeds is what f needs, FLeaves what it leaves, FKeeps what its loop keeps. Needs say that some
 -- model fits the arrays; Leaves hold for every model that fitted them. A relation of a state has a name of its own.
 --
--- The arrays as values (Labelling/State, Labelling/Loop)
+-- The arrays as values (`Labelling/State`, `Labelling/StepLoop`)
 --   Tables                the matrix, and the one array of prepared numbers: they stay
 --   Heaps                 the tables, the labels of all rows, and the words of all heaps
 --   Arrays                the heaps, and the tournament of the blocks
 --   Store                 the arrays, and the labels of the vertices
 --
--- The labelling: all arrays against the definition's state (Labelling/Loop)
+-- The labelling: all arrays against the definition's state (`Labelling/StepLoop`)
 --   IsLabelling           the answer and the labels are those of the definition's labelling
 --   LabelAllGiven         the tables are those of given pieces, the heaps are fresh, the label buffer is blank
 --   LabelAllNeeds Leaves  for some pieces, with a source; the answer and the labels are the labelling, for all pieces
@@ -18,7 +18,7 @@
 --   Underway              the tables are those of given pieces, and the store holds the definition's state after as many steps as the answer counts
 --   AfterSteps            the store holds the definition's state after k steps
 --
--- A vertex (Labelling/Extractions, Labelling/Vertices, Labelling/Settling, Labelling/Mapped)
+-- A vertex (`Labelling/Extractions`, `Labelling/Vertices`, `Labelling/Settling`, `Labelling/Mapped`)
 --   ExtractNeeds Leaves   some blocks whose columns are in the tables; the column of least sum of all blocks is extracted, or there is none
 --   Stepped               which of the two, by the function's answer
 --   VertexExtracted       the block and the column, and that the column's vertex is the one that is answered
@@ -30,7 +30,7 @@
 --   PieceDone             the states when one piece is done
 --   Mapped MappedPiece    the tables are those of given pieces; of one piece
 --
--- A place of a piece (Labelling/Activations, Labelling/Descent, Labelling/Halves)
+-- A place of a piece (`Labelling/Activations`, `Labelling/Descent`, `Labelling/Halves`)
 --   ActivatePlaceNeeds Leaves Keeps    a place that can be activated; it is activated in the blocks of its piece; in those of the levels so far
 --   SpotReady             the vertex stands at the place, its label too, and no activation is refused
 --   PlaceActivated        the states afterwards
@@ -38,7 +38,7 @@
 --   Stands                a vertex stands at a place of a piece, whose blocks are those of given states
 --   Halved Level Misses   the half that has the place; its window among those of the piece; a window does not have the place
 --
--- One block (Labelling/State, Labelling/Lent)
+-- One block (`Labelling/State`, `Labelling/LentHeaps`)
 --   ActivateBlockNeeds Leaves, ExtractBlockNeeds Leaves    a call on a block, with the tournament
 --   ActivateHeapNeeds Leaves, ExtractHeapNeeds Leaves      a call on a block's heap
 --   BlockKeyNeeds Leaves  the key of its least sum
@@ -49,14 +49,14 @@
 --   Parted BlockLies      the tables part the arrays among given blocks; one block is a window of the matrix
 --   Bounds                the numbers of a block lie within the arrays
 --
--- The tournament (Tree/Words, Tree/Climb)
+-- The tournament (`Tree/TreeWords`, `Tree/Climb`)
 --   IsTournament          the words hold the best of each block
 --   WinnerLeaves KeyChanged    the lowest block of least sum; one block has another key
 --   Key Won Played        the key of a block's best; a word is the lesser of the two below it; each word is
 --   Climbing Decreasing   every word is right but perhaps one; and that one once the new key is let in
 --   AtLevel               where a climb of all levels stands
 --
--- A session: its buffers against the definition's trace (Promises/Entries, Promises/Session, Session/Whole, Session/Traces, Session/Judged)
+-- A session: its buffers against the definition's trace (`PlainPromises` and `CallChains` of the definitions, `Session/Whole`, `Session/SessionChain`, `Session/Judged`)
 --   PlainSession          what an accepted session returns and leaves, in plain terms
 --   ServeNeeds Leaves     a checked rectangle and buffers that hold its calls; counts, answers and intervals are those of the trace
 --   Ran                   what `run_calls` leaves: words and counts agree with the trace, and the answers stand at the front of their buffer
@@ -68,7 +68,7 @@
 --   Accepted Sizes Sides  what a session that is not turned away may rely on; its buffers, its numbers
 --   Front                 so many numbers at each of the first places of a buffer, the rest as it was
 --
--- The heap of one block: its words against the model (Promises/Heap, Heap/Calls, Heap/Least, Heap/Best, Heap/Holds)
+-- The heap of one block: its words against the model (`HeldModel` of the definitions, `Heap/HeapCalls`, `Heap/LeastColumn`, `Heap/Best`, `Heap/Holds`)
 --   Checked Holds HoldsSome    the block that is lent is checked; the words hold a given model of it; some model
 --   ActivateGiven ActivateNeeds Leaves    the model is held, and the activation is not refused; for some model; the next model is held, for every model
 --   MinExtracted ExtractMinLeaves    the column of least sum is extracted and answered; for every model
@@ -78,14 +78,14 @@
 --   InItsInterval         the column that was found lies in the interval at its place
 --   Owned Where           the parent and the sum of a column of an interval; a column lies in an interval, or nobody has it
 --
--- The columns that a new row wins (Heap/Search, Heap/Bisect)
+-- The columns that a new row wins (`Heap/Search`, `Heap/Bisect`)
 --   SearchNeeds Leaves    what the search may rely on; the intervals that meet the won columns, and those columns
 --   TurnLeaves EndOfLeaves     the column at which a test begins to hold; one past the last column before it
 --   FirstYesNeeds Between      a question whose answers do not fall back; where they turn to yes
 --   Asked                 a number that the question may be asked of
 --   Laid In               the intervals lie in order and their sums fit; a column is one of an interval's
 --
--- The words (Heap/Clear, Heap/Words)
+-- The words (`Heap/Clear`, `Heap/WordLaws`)
 --   CutNeeds Leaves       a column of an interval; the interval gives way to its rests
 --   ClearLeaves           the same of some columns and the intervals that meet them, with a gap between the rests
 --   ReplaceNeeds Leaves   some intervals give way to two rests

@@ -1,5 +1,2 @@
--- What the exported entries promise beyond those that they call.
---   Entry    the definition
---   Laws     what the code leaves
-pub mod Entry
-pub mod Laws
+-- What the exported field reader leaves: its laws.
+pub mod FieldEntryLaws

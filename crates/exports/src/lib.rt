@@ -1,11 +1,8 @@
 // The entries for C and Rust, as one static library. Each promises what the entry that it calls promises; the field reader's value goes to a lent buffer,
 // since an enum does not cross to C.
 ghost use mathlib.Core.Path.{_≡_};
-ghost use Rattle.definitions.specs.Entries.{reading, labelNetwork, session, writeField};
-ghost use Rattle.answer.specs.Listing.{writeListing};
-ghost use Rattle.judgements.specs.LentPieces.{judgeLent};
-ghost use Rattle.engine.specs.Promises.Entries.{PlainSession, PlainLabels};
-ghost use Rattle.exports.specs.Entry.{fieldEntry};
+ghost use Rattle.definitions.specs.Entries.{reading, labelNetwork, session, writeField, writeListing, judgeLent, fieldEntry};
+ghost use Rattle.definitions.specs.PlainPromises.{PlainSession, PlainLabels};
 use bounds::Cause;
 use definitions::Field;
 use definitions::LabelAnswer;

@@ -15,7 +15,9 @@ use borrow.Author.Tests.{ne-eqb}
 use Rattle.definitions.specs.Limits.{sum}
 use Rattle.definitions.specs.Lists.{mem, Every}
 use Rattle.definitions.specs.Network.{Rectangle}
-use Rattle.definitions.specs.Model.{nobody, by, Model, least, through, parent, available, isActivated, activate, Interval, interval, runs, intervals, sameInterval, isKept, countNew}
+use Rattle.definitions.specs.Best.{nobody, by, least}
+use Rattle.definitions.specs.Intervals.{Interval, interval, runs, sameInterval, isKept, countNew}
+use Rattle.definitions.specs.Model.{Model, through, parent, available, isActivated, activate, intervals}
 use Rattle.basics.specs.Tests.{clash, split-at, Order, less, more, order}
 use Rattle.heap_laws.specs.Inequality.{MongeAll}
 use Rattle.heap_laws.specs.Lesser.{beats, wins, loses}

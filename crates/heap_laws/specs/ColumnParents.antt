@@ -10,7 +10,8 @@ use Prim.Native.Nat.{ℕ, suc, _≤_, _<_}
 use native.Mathlib.Omega.{arith}
 use Rattle.definitions.specs.Lists.{mem}
 use Rattle.definitions.specs.Network.{Rectangle}
-use Rattle.definitions.specs.Model.{Best, nobody, by, Model, parent, available, intervals}
+use Rattle.definitions.specs.Best.{Best, nobody, by}
+use Rattle.definitions.specs.Model.{Model, parent, available, intervals}
 use Rattle.basics.specs.Tests.{Truth, holds, fails, truth}
 use Rattle.heap_laws.specs.Parents.{parent-nobody}
 use Rattle.heap_laws.specs.Won.{won}

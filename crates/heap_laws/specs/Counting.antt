@@ -17,7 +17,8 @@ use borrow.Author.Tests.{eq-eqb, ne-eqb, eqb-true}
 use lib.Dec.{eqb}
 use lib.ListN.{length}
 use Rattle.definitions.specs.Lists.{Every}
-use Rattle.definitions.specs.Model.{Best, Interval, interval, runs, sameInterval, isKept, Distinct, countNew, Rising}
+use Rattle.definitions.specs.Best.{Best}
+use Rattle.definitions.specs.Intervals.{Interval, interval, runs, sameInterval, isKept, Distinct, countNew, Rising}
 use Rattle.basics.specs.Tests.{clash, and-left, and-right, Truth, holds, fails, truth}
 use Rattle.heap_laws.specs.Runs.{runs-rising}
 

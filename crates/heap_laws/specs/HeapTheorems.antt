@@ -20,7 +20,9 @@ use Rattle.definitions.specs.Limits.{sum}
 use Rattle.definitions.specs.Lists.{mem, Every}
 use Rattle.definitions.specs.Network.{Rectangle}
 use Rattle.definitions.specs.Blocks.{Monge, isMonge}
-use Rattle.definitions.specs.Model.{by, LeastLeft, parent, available, extract, Model, fresh, Interval, interval, intervals, isKept, Distinct, Call, coded, judge, step, Trace, extend, trace, AllExtractLeast, allowances, Rising}
+use Rattle.definitions.specs.Best.{by}
+use Rattle.definitions.specs.Intervals.{Interval, interval, isKept, Distinct, Rising}
+use Rattle.definitions.specs.Model.{LeastLeft, parent, available, extract, Model, fresh, intervals, Call, coded, judge, step, Trace, extend, trace, AllExtractLeast, allowances}
 use Rattle.heap_laws.specs.Inequality as inequality
 use Rattle.heap_laws.specs.Neighbours as neighbours
 use Rattle.heap_laws.specs.Lesser.{from-is, upTo-is}

@@ -11,7 +11,7 @@ use native.Mathlib.Omega.{arith}
 use borrow.Author.Tests.{lt-ltb, le-ltb, ltb-true}
 use lib.Dec.{ltb}
 use Rattle.definitions.specs.Limits.{below}
-use Rattle.definitions.specs.Model.{Best, nobody, by, lesser}
+use Rattle.definitions.specs.Best.{Best, nobody, by, lesser}
 use Rattle.basics.specs.Tests.{clash, Order, less, more, order}
 
 pub lesser-nobody : (x : Best) → lesser x nobody ≡ x

@@ -18,7 +18,8 @@ use lib.ListN.{length, length-map}
 use Rattle.definitions.specs.Limits.{maxLabel, sum}
 use Rattle.definitions.specs.Lists.{mem, Every}
 use Rattle.definitions.specs.Network.{Rectangle}
-use Rattle.definitions.specs.Model.{Best, nobody, by, lesser, least, Activation, Model, fresh, through, parent, available, leastFrom, isActivated, Call, activate, extract, step, Trace, extend, traceFrom, trace, Reached}
+use Rattle.definitions.specs.Best.{Best, nobody, by, lesser, least, leastFrom}
+use Rattle.definitions.specs.Model.{Activation, Model, fresh, through, parent, available, isActivated, Call, activate, extract, step, Trace, extend, traceFrom, trace, Reached}
 use Rattle.basics.specs.Tests.{clash, or-left, Truth, holds, fails, truth}
 use Rattle.basics.specs.ListLaws.{every-snoc, every-map, Different, mem-snoc, different-snoc, at-most}
 use Rattle.heap_laws.specs.Lesser.{From, UpTo, from-lesser, upTo-lesser, upTo-le, upTo-beats}

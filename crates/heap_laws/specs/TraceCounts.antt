@@ -11,7 +11,9 @@ use native.Mathlib.Nat.{add-zero}
 use native.Mathlib.Omega.{arith}
 use lib.ListN.{length, length-append}
 use Rattle.definitions.specs.Network.{Rectangle}
-use Rattle.definitions.specs.Model.{Best, nobody, by, available, leastFrom, Model, fresh, activate, extract, intervals, countNew, judge, Call, Answer, coded, extractionOf, step, allowance, Trace, extend, trace}
+use Rattle.definitions.specs.Best.{Best, nobody, by, leastFrom}
+use Rattle.definitions.specs.Intervals.{countNew}
+use Rattle.definitions.specs.Model.{available, Model, fresh, activate, extract, intervals, judge, Call, Answer, coded, extractionOf, step, allowance, Trace, extend, trace}
 use Rattle.heap_laws.specs.Inequality.{MongeAll}
 use Rattle.heap_laws.specs.ModelCalls.{Cases, activates, extracts, refuses, cases, step-activate, step-extract, step-refused, trace-induction}
 use Rattle.heap_laws.specs.Found.{Found, found-is}

@@ -14,7 +14,8 @@ use lib.ListN.{length}
 use Rattle.definitions.specs.Limits.{sum}
 use Rattle.definitions.specs.Lists.{Every}
 use Rattle.definitions.specs.Network.{Rectangle}
-use Rattle.definitions.specs.Model.{Best, nobody, by, Activation, parent}
+use Rattle.definitions.specs.Best.{Best, nobody, by}
+use Rattle.definitions.specs.Model.{Activation, parent}
 use Rattle.basics.specs.Tests.{clash, below-suc, split-at, Order, less, more, order, Truth, holds, fails, truth}
 use Rattle.heap_laws.specs.Inequality.{MongeAll, crossing-later, crossing-earlier}
 use Rattle.heap_laws.specs.Lesser.{beats, beats-is}

@@ -7,11 +7,11 @@ ghost use Rattle.definitions.specs.Limits.{maxPieces, maxSize, sizePlaces, vert
 ghost use Rattle.definitions.specs.Lists.{every, mem, within};
 ghost use Rattle.definitions.specs.Blocks.{allSplits, windows, windowsOf};
 ghost use Rattle.definitions.specs.Judgement.{judgeBounds, judgeSize, judgeVertices, judgeRow, judgeRows, judgeFrom, judgeSource};
-ghost use Rattle.definitions.specs.Entries.{judgeBuffers};
+ghost use Rattle.definitions.specs.Entries.{judgeBuffers, judgeLent};
 ghost use Rattle.splits.specs.Table.{flattened, splitOf};
 ghost use Rattle.splits.specs.Sizes.{Cut};
 ghost use Rattle.monge.specs.Matrix.{rowsIn};
-ghost use Rattle.judgements.specs.LentPieces.{judgeTable, judgePieceIn, judgeLent};
+ghost use Rattle.judgements.specs.LentPieces.{judgeTable, judgePieceIn};
 ghost use Rattle.judgements.specs.PieceJudgement.{passesIn};
 use bounds::Cause;
 use bounds::Network;

@@ -19,7 +19,8 @@ use Rattle.definitions.specs.Limits.{maxVertices, maxLength, maxLabel, sum}
 use Rattle.definitions.specs.Lists.{mem, Every}
 use Rattle.definitions.specs.Network.{Rectangle, Walk, stay, then}
 use Rattle.definitions.specs.Blocks.{Block, noBlock}
-use Rattle.definitions.specs.Model.{Best, nobody, by, least, Model, parent, available, leastFrom}
+use Rattle.definitions.specs.Best.{Best, nobody, by, least, leastFrom}
+use Rattle.definitions.specs.Model.{Model, parent, available}
 use Rattle.definitions.specs.Labelling.{BlockState, extraction, freshBlock, apply, leastOf, activateVertex, Settled, settledAt, State, labelOf, settleAs, settle, noBlockState, chosen, placeIn, extractFrom, advance, steps, start}
 use Rattle.basics.specs.ListLaws.{every-at, every-set, every-snoc, every-imp, every-map, every-all, map-same, map-back, Different, different-snoc, at-most}
 use Rattle.heap_laws.specs.Lesser.{From, from-le}

@@ -6,8 +6,9 @@ use mathlib.Core.Option.{Option, none, some}
 use Prim.Native.Nat.{ℕ, zero, suc}
 use lib.ListN.{getD, length}
 use Rattle.definitions.specs.Lists.{Every}
-use Rattle.definitions.specs.Model.{Best, nobody, by, Call, Trace, extend, traceFrom, trace}
 use Rattle.definitions.specs.Blocks.{Block}
+use Rattle.definitions.specs.Best.{Best, nobody, by}
+use Rattle.definitions.specs.Model.{Call, Trace, extend, traceFrom, trace}
 use Rattle.definitions.specs.Labelling.{BlockState, activation, extraction, freshBlock, apply, placeOf, activateAt, activateVertex, State, labelOf, settleAs, settle, noBlockState, chosen, extractFrom, advance, steps, start}
 use Rattle.basics.specs.ListLaws.{every-map, every-set}
 use Rattle.heap_laws.specs.ModelCalls.{trace-snoc}

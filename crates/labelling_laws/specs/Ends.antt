@@ -14,8 +14,8 @@ use native.Mathlib.Omega.{arith}
 use lib.ListN.{length, set}
 use Rattle.definitions.specs.Limits.{maxLabel}
 use Rattle.definitions.specs.Lists.{total, Every}
-use Rattle.definitions.specs.Model.{Best, nobody, by}
 use Rattle.definitions.specs.Blocks.{Block}
+use Rattle.definitions.specs.Best.{Best, nobody, by}
 use Rattle.definitions.specs.Labelling.{BlockState, extraction, freshBlock, apply, leastOf, activateVertex, settledAt, State, labelOf, settleAs, settle, noBlockState, chosen, placeIn, extractFrom, advance, steps, start, columns, labelling, reached, extractions, insertions}
 use Rattle.basics.specs.ListLaws.{every-imp, every-map, map-same, total-set, total-le, Different}
 use Rattle.heap_laws.specs.Found.{Lowest, found-is}

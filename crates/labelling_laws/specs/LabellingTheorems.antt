@@ -21,7 +21,8 @@ use Rattle.definitions.specs.Limits.{maxLabel, labelPlaces, unreached}
 use Rattle.definitions.specs.Lists.{count, all, every, mem, different, upFrom, downTo, within, firstCause, Every}
 use Rattle.definitions.specs.Network.{Piece, entry, sizeOf, Distance}
 use Rattle.definitions.specs.Blocks.{splits, splitsOf, windows, windowsOf, rowsOf, columnsOf, corners, isMonge, blockOf, blocksOf, blocks, passes, weight}
-use Rattle.definitions.specs.Model.{nobody, intervals}
+use Rattle.definitions.specs.Best.{nobody}
+use Rattle.definitions.specs.Model.{intervals}
 use Rattle.definitions.specs.Labelling.{labelOf, chosen, steps, start, labelling, reached, extractions, insertions, labels}
 use Rattle.definitions.specs.Judgement.{judgeBounds, judgeSize, judgeVertices, judgeRow, judgeRows, judgeBlocks, judgeSource, judgePiece, piecesOf}
 use Rattle.definitions.specs.Entries.{judgeLabelling}
@@ -44,7 +45,7 @@ module _ (n : ℕ) (pieces : List Piece) (source : ℕ) (ok : Accepted n pieces 
   pub it-ends : chosen (labelling (blocks pieces) source) ≡ nobody
   it-ends = ends.ends (blocks pieces) n source (network.setting n pieces source ok)
 
-  -- "It ends when no block has an interval": nothing to choose means that every list of intervals is empty.
+  -- At its end no block has an interval: nothing to choose means that every list of intervals is empty.
   pub no-interval-left : Every (λ s. intervals (s .block .lengths) (length (s .block .cols)) (s .trace .model) ≡ []) ((labelling (blocks pieces) source) .blocks)
   no-interval-left = chosen-none (labelling (blocks pieces) source) it-ends
 
@@ -68,7 +69,7 @@ module _ (n : ℕ) (pieces : List Piece) (source : ℕ) (ok : Accepted n pieces 
   pub above-n : (i : ℕ) → n ≤ i → i < labelPlaces → getD (labels (labelling (blocks pieces) source)) i 0 ≡ unreached
   above-n = network.above-n n pieces source ok
 
-  -- "gates reached (the source too)": as many as places of the buffer that hold a label. Each vertex is settled once.
+  -- The vertices reached are as many as places of the buffer that hold a label. Each vertex is settled once.
   pub reached-counts : reached (labelling (blocks pieces) source) ≡ count (λ i. not (eqb (getD (labels (labelling (blocks pieces) source)) i 0) unreached)) labelPlaces
   reached-counts = network.reached-count n pieces source ok
 

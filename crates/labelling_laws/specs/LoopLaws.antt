@@ -13,8 +13,9 @@ use lib.ListN.{getD, length, set, replicate, length-set, length-map, length-repl
 use lib.Seq.{getD-set-same, getD-set-other, ext-getD}
 use Rattle.definitions.specs.Limits.{maxLabel, labelPlaces, unreached}
 use Rattle.definitions.specs.Lists.{upFrom, Every}
-use Rattle.definitions.specs.Model.{nobody, by, available, intervals}
 use Rattle.definitions.specs.Blocks.{Block}
+use Rattle.definitions.specs.Best.{nobody, by}
+use Rattle.definitions.specs.Model.{available, intervals}
 use Rattle.definitions.specs.Labelling.{BlockState, activation, extraction, freshBlock, apply, leastOf, placeOf, activateAt, activateVertex, settledAt, State, labelOf, settleAs, settle, noBlockState, chosen, placeIn, extractFrom, advance, start, heldLabel, labels}
 use Rattle.basics.specs.Tests.{Equal, equal, differ, equality}
 use Rattle.basics.specs.ListLaws.{every-all}

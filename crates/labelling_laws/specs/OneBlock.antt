@@ -19,7 +19,8 @@ use Rattle.definitions.specs.Limits.{maxLength, maxLabel}
 use Rattle.definitions.specs.Lists.{mem, Every}
 use Rattle.definitions.specs.Network.{Rectangle}
 use Rattle.definitions.specs.Blocks.{Block}
-use Rattle.definitions.specs.Model.{Best, nobody, by, lesser, least, Activation, Model, through, parent, available, leastFrom, isActivated, judge, step, activate, extract, Trace, extend}
+use Rattle.definitions.specs.Best.{Best, nobody, by, lesser, least, leastFrom}
+use Rattle.definitions.specs.Model.{Activation, Model, through, parent, available, isActivated, judge, step, activate, extract, Trace, extend}
 use Rattle.definitions.specs.Labelling.{BlockState, activation, extraction, freshBlock, apply, leastOf, placeOf, activateAt, activateVertex, Settled, settledAt, labelOf}
 use Rattle.basics.specs.Tests.{clash, Truth, holds, fails, truth, Equal, equal, differ, equality}
 use Rattle.basics.specs.ListLaws.{every-snoc, Different, mem-snoc}

@@ -1,5 +1,4 @@
 -- What the labelling prepares, and the laws of block numbers.
-pub mod HeapWords
 pub mod Prepared
 pub mod Numbers
 pub mod Placements

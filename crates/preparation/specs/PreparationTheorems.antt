@@ -21,9 +21,9 @@ use Rattle.definitions.specs.Network.{Piece, sizeOf, noPiece}
 use Rattle.definitions.specs.Blocks.{Window, windowsOf, Block, noBlock, blockOf, blocks}
 use Rattle.definitions.specs.Labelling.{placeOf}
 use Rattle.definitions.specs.Judgement.{pieceAt, piecesOf}
+use Rattle.definitions.specs.HeapWords.{heapWords}
 use Rattle.basics.specs.ListLaws.{Different}
 use Rattle.monge.specs.Matrix.{at}
-use Rattle.preparation.specs.HeapWords.{heapWords}
 use Rattle.preparation.specs.Prepared.{sizeAt, matrixOf, placeNumber, placesOf, partsOf, slotIn, rowIn, colIn, colsIn, lastIn, rowCountIn, maxBlocks, maxWords, placementsOf, firstsOf, tablesOf, placeIn, firstIn, sizeIn, vertexIn, piecesIn}
 use Rattle.preparation.specs.Placements.{length-upTo, blocks-few}
 use Rattle.preparation.specs.Numbering.{Fits, noWindow, first-is, firsts-are, Numbered, numbered}

@@ -20,8 +20,8 @@ use lib.Seq.{sets}
 use Rattle.definitions.specs.Limits.{maxVertices, maxPieces, maxSize, vertexPlaces, rowPlaces, tablePlaces}
 use Rattle.definitions.specs.Lists.{total, upFrom, padded, within}
 use Rattle.definitions.specs.Blocks.{Split, Window, windows, windowsOf}
+use Rattle.definitions.specs.HeapWords.{headWords, intervalWords, heapWords}
 use Rattle.monge.specs.Matrix.{reversedRow}
-use Rattle.preparation.specs.HeapWords.{headWords, intervalWords, heapWords}
 
 -- 0 for a piece that the network does not have, and for a size above 24: such a piece has no vertex, no row and no block
 unfoldable pub sizeAt : ℕ → List ℕ → ℕ → ℕ

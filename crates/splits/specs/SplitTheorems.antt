@@ -21,12 +21,12 @@ the-list = listed
 the-count : length allSplits ≡ 276
 the-count = counted
 
--- "A stretch of k ≥ 2 gates is cut into its first floor(k/2) gates, A, and the rest, B": `Halved` says so of a split.
+-- Every split cuts its stretch after half of its places, rounded down: `Halved` says so of one.
 -- Tested over the whole list, carried to each entry.
 the-rule : (k : ℕ) → k < 276 → Halved (getD allSplits k noSplit)
 the-rule = halved
 
--- "Each ordered pair of different places of a district lies in exactly one block": so many blocks have row i and column j.
+-- Two different places lie in exactly one block: so many blocks have row i and column j.
 each-pair-once : (m i j : ℕ) → m ≤ maxSize → i < m → j < m → i ≢ j → tally i j (windowsOf m) ≡ 1
 each-pair-once = pair-once
 

@@ -11,7 +11,9 @@ use Rattle.basics.specs.ListLaws.{every-append}
 use Rattle.definitions.specs.Lists.{total, firstCause, Every}
 use Rattle.definitions.specs.Network.{Piece, sizeOf}
 use Rattle.definitions.specs.Judgement.{judgeBounds, judgeSize, judgeVertices, judgeRow, judgeRows, judgeBlocks, judgeSource, judgePiece, judgeFrom, judgeNetwork}
-use Rattle.definitions.specs.Text.{fieldBytes, fieldAt, lengthAt, FieldReading, value, require, readField, readFields, judgeLineEnd, readLine, lineBytes, readRows, readPiece, pieceBytes, readPieces, Plan, judgeEnd, readBody, readPlan, sizesOf, verticesOf, lengthsOf}
+use Rattle.definitions.specs.Fields.{fieldBytes, fieldAt, lengthAt}
+use Rattle.definitions.specs.Reading.{FieldReading, value, require, readField, readFields, judgeLineEnd, readLine, lineBytes, readRows, readPiece, pieceBytes, readPieces, Plan, judgeEnd, readBody, readPlan}
+use Rattle.definitions.specs.Text.{sizesOf, verticesOf, lengthsOf}
 use Rattle.basics.specs.Causes.{size-in}
 use Rattle.text.specs.ReadSteps.{pieceOf, value-same, bind-value, require-value}
 use Rattle.text.specs.PieceReading.{Shaped}

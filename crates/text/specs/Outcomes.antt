@@ -6,7 +6,7 @@ use Prim.Native.Nat.{ℕ, _+_, _*_, _≤_}
 use lib.ListN.{length}
 use Rattle.definitions.specs.Limits.{rowPlaces, tablePlaces}
 use Rattle.definitions.specs.Lists.{padded, Every}
-use Rattle.definitions.specs.Text.{Read, refused, value, lineBytes}
+use Rattle.definitions.specs.Reading.{Read, refused, value, lineBytes}
 
 -- 0, and a value was read that what is left shows; or the number of the refusal
 pub record Came {A : Type 0} (read : Read A) (number : ℕ) (Shows : A → Type 0) : Type 0 where

@@ -21,8 +21,10 @@ use Rattle.basics.specs.ListLaws.{every-imp, every-snoc, length-padded, total-a
 use Rattle.definitions.specs.Limits.{maxSize, sizePlaces, vertexPlaces, lengthPlaces, rowPlaces, tablePlaces}
 use Rattle.definitions.specs.Lists.{padded, total, within, Every}
 use Rattle.definitions.specs.Network.{Piece, sizeOf}
-use Rattle.definitions.specs.Text.{fieldBytes, fieldAt, refused, value, require, readField, readLine, lineBytes, readRows, readPiece, pieceBytes, readPieces, sizesOf, verticesOf, tableOf, lengthsOf}
 use Rattle.definitions.specs.Judgement.{judgeSize, judgeVertices, judgeBlocks}
+use Rattle.definitions.specs.Fields.{fieldBytes, fieldAt}
+use Rattle.definitions.specs.Reading.{refused, value, require, readField, readLine, lineBytes, readRows, readPiece, pieceBytes, readPieces}
+use Rattle.definitions.specs.Text.{sizesOf, verticesOf, tableOf, lengthsOf}
 use Rattle.judgements.specs.LentPieces.{judgeTable}
 use Rattle.basics.specs.Causes.{size-in}
 use Rattle.judgements.specs.PieceJudgement.{table-blocks}

@@ -20,7 +20,8 @@ use native.Mathlib.Numerals.{add-one}
 use Rattle.basics.specs.Tests.{Truth, holds, fails, truth}
 use Rattle.definitions.specs.Network.{Piece}
 use Rattle.definitions.specs.Judgement.{judgeSize, judgeVertices, judgeRow, judgeBlocks}
-use Rattle.definitions.specs.Text.{require, readRows, readPiece, pieceBytes, readPieces, lineEnd, fieldBytes, aField, noField, fieldAt, lengthAt, FieldReading, Read, refused, value, _>>=_, readField, readFields, judgeLineEnd, readLine, lineBytes}
+use Rattle.definitions.specs.Fields.{lineEnd, fieldBytes, aField, noField, fieldAt, lengthAt}
+use Rattle.definitions.specs.Reading.{require, readRows, readPiece, pieceBytes, readPieces, FieldReading, Read, refused, value, _>>=_, readField, readFields, judgeLineEnd, readLine, lineBytes}
 
 -- what is in hand, and then what is read
 unfoldable pub after : {A : Type 0} → List A → Read (List A) → Read (List A)

@@ -10,7 +10,8 @@ use Prim.Native.Nat.{ℕ, suc, _+_, _-_, _*_, _≤_, _<_}
 use native.Mathlib.Omega.{arith}
 use lib.ListN.{getD, length, take, List·getD-eq-default}
 use lib.Seq.{take-all}
-use Rattle.definitions.specs.Text.{lineEnd, fieldBytes, noField, FieldReading, Read, refused, value, readFields, readLine}
+use Rattle.definitions.specs.Fields.{lineEnd, fieldBytes, noField}
+use Rattle.definitions.specs.Reading.{FieldReading, Read, refused, value, readFields, readLine}
 use Rattle.text.specs.Outcomes.{Came}
 use Rattle.text.specs.ReadSteps.{judged, judged-go, judged-out, judged-stop, after, Inside, fields-stop, fields-in, line-go, line-stop, line-open}
 

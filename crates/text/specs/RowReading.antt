@@ -18,7 +18,8 @@ use Rattle.basics.specs.ListLaws.{every-snoc, length-padded}
 use Rattle.definitions.specs.Limits.{maxSize, rowPlaces, tablePlaces}
 use Rattle.definitions.specs.Lists.{padded, upFrom, Every}
 use Rattle.definitions.specs.Judgement.{judgeRow}
-use Rattle.definitions.specs.Text.{lineEnd, fieldBytes, lengthAt, FieldReading, Read, refused, value, _>>=_, require, readFields, judgeLineEnd, readLine, lineBytes, readRows}
+use Rattle.definitions.specs.Fields.{lineEnd, fieldBytes, lengthAt}
+use Rattle.definitions.specs.Reading.{FieldReading, Read, refused, value, _>>=_, require, readFields, judgeLineEnd, readLine, lineBytes, readRows}
 use Rattle.text.specs.Outcomes.{Came, RowsLeft}
 use Rattle.text.specs.ReadSteps.{after, after-after, after-none, judged, rows-go, rows-stop}
 use Rattle.text.specs.Padding.{padded-inner}

@@ -3,7 +3,7 @@
 // The borrow checker covers no function over such a struct, so each is proved by a walk by hand. They are few and only make the struct or take
 // it apart; every branch and loop is in the field reader. `field_at` has plain parameters and serves every caller without a walk.
 ghost use mathlib.Core.Path.{_≡_};
-ghost use Rattle.definitions.specs.Text.{fieldAt, fieldAnswer};
+ghost use Rattle.definitions.specs.Fields.{fieldAt, fieldAnswer};
 use definitions::Field;
 
 struct Reader<'a> {

@@ -7,7 +7,7 @@ use borrow.Author.Needs.{needs}
 use borrow.Fn.Kinds.{In}
 use borrow.Fn.PlainCycle.{Measures, is, falls, and}
 use lib.ListN.{length, length-append}
-use Rattle.definitions.specs.Entries.{decimal}
+use Rattle.definitions.specs.Fields.{decimal}
 use Rattle.fields.specs.NineColumns.{maxDigits, decimal-one, decimal-more}
 use Rattle.answer.specs.Output.{put-both}
 use Rattle.answer.proofs.put_number.Reads as put-number

@@ -7,7 +7,7 @@ use native.Mathlib.Omega.{arith}
 use borrow.Author.Needs.{needs}
 use lib.ListN.{length}
 use lib.Seq.{length-take-le}
-use Rattle.answer.specs.Listing.{writeListing}
+use Rattle.definitions.specs.Entries.{writeListing}
 use Rattle.answer.specs.Front.{inputPlaces, part-read, front-listed}
 use Rattle.answer.proofs.list_input.Statement.{statement}
 use Rattle.answer.proofs.list_input.Tie as tie

@@ -7,7 +7,7 @@ use borrow.Author.Needs.{needs}
 use lib.ListN.{length, take}
 use lib.Seq.{length-take-le}
 use Rattle.definitions.specs.Limits.{columnBytes, linePlaces}
-use Rattle.definitions.specs.Entries.{nineColumns}
+use Rattle.definitions.specs.Fields.{nineColumns}
 use Rattle.answer.specs.Lines.{fields-turn, fields-all}
 use Rattle.answer.proofs.put_fields.Statement.{statement}
 use Rattle.answer.proofs.put_fields.Tie as tie

@@ -6,7 +6,7 @@ use Prim.Native.Nat.{_+_, _-_, _*_, _≤_}
 use native.Mathlib.Omega.{arith}
 use borrow.Author.Needs.{needs}
 use lib.ListN.{getD, length}
-use Rattle.answer.specs.Listing.{listingLineBytes}
+use Rattle.definitions.specs.Entries.{listingLineBytes}
 use Rattle.basics.specs.Buffers.{put}
 use Rattle.answer.specs.Lines.{length-line, vertexLines, length-vertices, vertices-turn, vertices-all}
 use Rattle.answer.proofs.put_vertices.Statement.{statement}

@@ -7,7 +7,7 @@ use Prim.Native.Nat.{ℕ, _+_, _≤_, _<_}
 use native.Mathlib.Nat.{le-refl}
 use native.Mathlib.Omega.{arith}
 use Rattle.definitions.specs.Limits.{sum}
-use Rattle.definitions.specs.Model.{Best, nobody, by, leastFrom}
+use Rattle.definitions.specs.Best.{Best, nobody, by, leastFrom}
 use Rattle.basics.specs.Tests.{split-at}
 use Rattle.heap_laws.specs.Lesser.{from-is, beats-is}
 use Rattle.heap_laws.specs.Found.{Found, found-is}

@@ -17,10 +17,14 @@ use lib.ListN.{length, getD, set, length-append, length-set}
 use lib.Seq.{getD-set-same, getD-set-other}
 use Rattle.definitions.specs.Limits.{maxLabel, maxSide, rowPlaces}
 use Rattle.definitions.specs.Lists.{Every}
+use Rattle.definitions.specs.Best.{nobody, by, leastFrom}
+use Rattle.definitions.specs.Intervals.{interval, isKept, countNew}
+use Rattle.definitions.specs.Model.{Activation, Model, available, isActivated, activate, extract, extractionOf, answerOf, intervals, Reached}
+use Rattle.definitions.specs.Labelling.{activation, extraction}
+use Rattle.definitions.specs.HeapWords.{countWord, markWord, headWords, heapWords, countOf, markOf, firstAt, lastAt, span, kept}
+use Rattle.definitions.specs.HeldModel.{lentEntry, mark, Holds}
 use Rattle.definitions.specs.declared.Extraction.{Extraction}
 use Rattle.definitions.specs.declared.Extraction.the-variants.{Column, Nothing}
-use Rattle.definitions.specs.Model.{nobody, by, Activation, Model, available, leastFrom, isActivated, activate, extract, extractionOf, answerOf, interval, intervals, isKept, countNew, Reached}
-use Rattle.definitions.specs.Labelling.{activation, extraction}
 use Rattle.basics.specs.ListLaws.{every-snoc}
 use Rattle.heap_laws.specs.ModelCalls.{Activates, step-activate, step-extract}
 use Rattle.heap_laws.specs.Won.{won, won-between, Range}
@@ -31,9 +35,6 @@ use Rattle.heap_laws.specs.Edits.{before, from, cutAt}
 use Rattle.heap_laws.specs.ColumnParents.{lookup-available, won-outside}
 use Rattle.heap_laws.specs.Activate.{activate-none, activate-edit, activate-inserted, none-kept, activate-first}
 use Rattle.heap_laws.specs.Extract.{extract-edit, extract-inserted}
-use Rattle.preparation.specs.HeapWords.{countWord, markWord, headWords, heapWords}
-use Rattle.engine.specs.Promises.Words.{countOf, markOf, firstAt, lastAt, span, kept}
-use Rattle.engine.specs.Promises.Heap.{entry, mark, Holds}
 use Rattle.engine.specs.Heap.WordLaws.{length-span, Outside, PutLeaves}
 use Rattle.engine.specs.Heap.Clear.{restLen-most, countAfter, Meets, Room, ClearLeaves, CutNeeds, CutLeaves}
 use Rattle.engine.specs.Heap.Search.{In, wins, SearchLeaves}
@@ -46,18 +47,18 @@ use Rattle.engine.specs.Heap.Cuts.{cut-lengths, clear-trims, clear-kept,
 -- the words u hold the model m′ after m, and so many intervals are inserted and removed
 pub record Becomes (u : List ℕ) (rows : List (List ℕ)) (col0 cols : ℕ) (labels : List ℕ) (m m′ : Model) (inserted removed : ℕ) : Type 0 where
   pub held : Holds u rows col0 cols labels m′
-  pub inserted-is : inserted ≡ countNew (intervals (entry rows col0) cols m′) (intervals (entry rows col0) cols m)
-  pub removed-is : removed ≡ countNew (intervals (entry rows col0) cols m) (intervals (entry rows col0) cols m′)
+  pub inserted-is : inserted ≡ countNew (intervals (lentEntry rows col0) cols m′) (intervals (lentEntry rows col0) cols m)
+  pub removed-is : removed ≡ countNew (intervals (lentEntry rows col0) cols m) (intervals (lentEntry rows col0) cols m′)
 
 length-kept : (w : List ℕ) → length (kept w) ≡ countOf w
 unfolding kept
 length-kept w = length-span w 0 (countOf w)
 
 module _ (w u : List ℕ) (rows : List (List ℕ)) (col0 cols : ℕ) (labels : List ℕ) (m : Model) (h : Holds w rows col0 cols labels m) (m′ : Model)
-    (long : length u ≡ length w) (marked : markOf u ≡ mark (m′ .activated)) (listed : kept u ≡ intervals (entry rows col0) cols m′)
-    (labels-at : Every (λ a. getD labels (a .row) 0 ≡ a .label) (m′ .activated)) (reached : Reached (entry rows col0) (length rows) cols m′) where
+    (long : length u ≡ length w) (marked : markOf u ≡ mark (m′ .activated)) (listed : kept u ≡ intervals (lentEntry rows col0) cols m′)
+    (labels-at : Every (λ a. getD labels (a .row) 0 ≡ a .label) (m′ .activated)) (reached : Reached (lentEntry rows col0) (length rows) cols m′) where
   -- as many are removed as makes the lengths come out
-  becomes : (inserted removed : ℕ) → inserted ≡ countNew (intervals (entry rows col0) cols m′) (intervals (entry rows col0) cols m)
+  becomes : (inserted removed : ℕ) → inserted ≡ countNew (intervals (lentEntry rows col0) cols m′) (intervals (lentEntry rows col0) cols m)
       → inserted + countOf w ≡ removed + countOf u → Becomes u rows col0 cols labels m m′ inserted removed
   unfolding intervals
   becomes inserted removed a b = record {
@@ -65,7 +66,7 @@ module _ (w u : List ℕ) (rows : List (List ℕ)) (col0 cols : ℕ) (labels : L
     inserted-is = a;
     removed-is = omega (
       arith,
-      balance (intervals (entry rows col0) cols m′) (intervals (entry rows col0) cols m) (runs-distinct _ 0 cols) (runs-distinct _ 0 cols),
+      balance (intervals (lentEntry rows col0) cols m′) (intervals (lentEntry rows col0) cols m) (runs-distinct _ 0 cols) (runs-distinct _ 0 cols),
       length-kept w,
       length-kept u,
       ap length (h .listed),
@@ -125,11 +126,11 @@ module _ (w : List ℕ) (rows : List (List ℕ)) (col0 cols : ℕ) (labels : Lis
   abbrev next : Model
   next = activate m row (getD labels row 0)
 
-  next-reached : Reached (entry rows col0) (length rows) cols next
+  next-reached : Reached (lentEntry rows col0) (length rows) cols next
   next-reached =
       let k = activation row (getD labels row 0) in
       let a : Activates (length rows) m k = record { kind-is = refl; row-in = c .row-in; row-new = c .row-new; limited = c .limited; high = c .high } in
-      rw (step-activate (entry rows col0) (length rows) cols m k a) at (reached-step (entry rows col0) (length rows) cols m k (c .held .reached))
+      rw (step-activate (lentEntry rows col0) (length rows) cols m k a) at (reached-step (lentEntry rows col0) (length rows) cols m k (c .held .reached))
 
   next-labels : Every (λ a. getD labels (a .row) 0 ≡ a .label) (next .activated)
   unfolding activate
@@ -160,9 +161,9 @@ module _ (w : List ℕ) (rows : List (List ℕ)) (col0 cols : ℕ) (labels : Lis
   activated-first q u f =
       let none = none-mark q in
       let z : cols - 1 ≡ pred cols = omega arith in
-      let e = none-kept (entry rows col0) cols m none in
-      let l : intervals (entry rows col0) cols next ≡ interval row 0 (pred cols) ∷ [] =
-      activate-first (entry rows col0) (length rows) cols m (sound-of (c .held)) row (getD labels row 0) (c .high) none (c .held .checked .some) in
+      let e = none-kept (lentEntry rows col0) cols m none in
+      let l : intervals (lentEntry rows col0) cols next ≡ interval row 0 (pred cols) ∷ [] =
+      activate-first (lentEntry rows col0) (length rows) cols m (sound-of (c .held)) row (getD labels row 0) (c .high) none (c .held .checked .some) in
       becomes w u rows col0 cols labels m (c .held) next (f .long) (f .marked ∙ sym next-mark) (f .listed ∙ rw z (sym l)) next-labels next-reached
       1 0 (rw (l, e)) (omega (arith, f .counted, length-kept w, ap length (c .held .listed ∙ e)))
 
@@ -177,24 +178,24 @@ module _ (w : List ℕ) (rows : List (List ℕ)) (col0 cols : ℕ) (labels : Lis
 
     -- the code's test over the intervals is the model's over the columns
     lost-at : (P : ℕ → Type 0) → ((k x : ℕ) → P x → k < countOf w → In w k x → wins w rows col0 labels row k x ≡ false)
-        → (x : ℕ) → x < cols → P x → won (entry rows col0) (m .activated) row (getD labels row 0) x ≡ false
+        → (x : ℕ) → x < cols → P x → won (lentEntry rows col0) (m .activated) row (getD labels row 0) x ≡ false
     unfolding tag
     lost-at P f x l p = go (where-is w rows col0 cols labels m (c .held) x l)
       where
-        go : Where w (available (entry rows col0) m x) x → won (entry rows col0) (m .activated) row (getD labels row 0) x ≡ false
+        go : Where w (available (lentEntry rows col0) m x) x → won (lentEntry rows col0) (m .activated) row (getD labels row 0) x ≡ false
         go (within k a i) = sym (wins-is w rows col0 cols labels m (c .held) row k x a i) ∙ f k x p a i
-        go (outside q) = won-outside (entry rows col0) (length rows) cols m x l (sound-of (c .held)) row (getD labels row 0) some (c .high)
-            (lookup-available (entry rows col0) (length rows) cols m x l ∙ ap tag q)
+        go (outside q) = won-outside (lentEntry rows col0) (length rows) cols m x l (sound-of (c .held)) row (getD labels row 0) some (c .high)
+            (lookup-available (lentEntry rows col0) (length rows) cols m x l ∙ ap tag q)
 
     module _ (lo hi first end : ℕ) (f : SearchLeaves w rows col0 labels row lo hi first end) where
       pub activated-none : hi ≤ lo → Becomes w rows col0 cols labels m next 0 0
       activated-none l =
-          let q = activate-none (entry rows col0) cols m row (getD labels row 0) (λ x b. lost-at (λ _. Unit {0}) (λ k y _ a i. f .none l k y a i) x b tt) in
+          let q = activate-none (lentEntry rows col0) cols m row (getD labels row 0) (λ x b. lost-at (λ _. Unit {0}) (λ k y _ a i. f .none l k y a i) x b tt) in
           becomes w w rows col0 cols labels m (c .held) next refl (c .held .marked ∙ marked ∙ sym next-mark) (c .held .listed ∙ sym q) next-labels next-reached 0 0
-          (rw q (sym (countNew-same (intervals (entry rows col0) cols m)))) refl
+          (rw q (sym (countNew-same (intervals (lentEntry rows col0) cols m)))) refl
 
       module _ (l : lo < hi) where
-        at-ends : Range (won (entry rows col0) (m .activated) row (getD labels row 0)) cols first end
+        at-ends : Range (won (lentEntry rows col0) (m .activated) row (getD labels row 0)) cols first end
         at-ends =
             let s = f .stretch l in
             let low : In w lo first = (s .from-first, s .start) in
@@ -204,7 +205,7 @@ module _ (w : List ℕ) (rows : List (List ℕ)) (col0 cols : ℕ) (labels : Lis
             record {
               ordered = omega (arith, s .ordered);
               inside = omega (arith, s .to-last, r .high);
-              within = λ x a b. won-between (entry rows col0) (length rows) cols (all-pairs (c .held .checked)) (m .activated) (sound-of (c .held) .in-rows) row (getD labels row 0) (c .row-in)
+              within = λ x a b. won-between (lentEntry rows col0) (length rows) cols (all-pairs (c .held .checked)) (m .activated) (sound-of (c .held) .in-rows) row (getD labels row 0) (c .row-in)
                   first x (end - 1) a (omega arith) (omega (arith, s .to-last, r .high))
                   (sym (wins-is w rows col0 cols labels m (c .held) row lo first (omega (arith, s .inside)) low) ∙ f .won l lo first (omega (arith, s .inside)) low (le-refl first) (s .ordered))
                   (sym (wins-is w rows col0 cols labels m (c .held) row (hi - 1) (end - 1) n high) ∙ f .won l (hi - 1) (end - 1) n high (omega (arith, s .ordered)) (omega (arith, s .ordered)));
@@ -212,17 +213,17 @@ module _ (w : List ℕ) (rows : List (List ℕ)) (col0 cols : ℕ) (labels : Lis
               after = λ x a b. lost-at (λ (y : ℕ). end ≤ y) (λ k y p d i. f .lost l k y d i (inr p)) x b a;
             }
 
-        edit : intervals (entry rows col0) cols next ≡ before first (kept w) ++ (interval row first (end - 1) ∷ from end (kept w))
+        edit : intervals (lentEntry rows col0) cols next ≡ before first (kept w) ++ (interval row first (end - 1) ∷ from end (kept w))
         edit =
             let z : end - 1 ≡ pred end = omega arith in
-            rw (c .held .listed, z) (activate-edit (entry rows col0) (length rows) cols m (sound-of (c .held)) row (getD labels row 0) (c .row-new) (c .high) first end at-ends (f .stretch l .ordered))
+            rw (c .held .listed, z) (activate-edit (lentEntry rows col0) (length rows) cols m (sound-of (c .held)) row (getD labels row 0) (c .row-new) (c .high) first end at-ends (f .stretch l .ordered))
 
         pub activated-room : Room w lo hi first end 1
         unfolding intervals
         activated-room =
             let n = cut-lengths w rows col0 labels (laid w rows col0 cols labels m (c .held)) lo hi first end (f .stretch l) in
             let k : countAfter w lo hi first end 1 ≤ cols =
-            omega (arith, n .0, n .1, simp length-append at (ap length edit), runs-length (available (entry rows col0) next) 0 cols) in
+            omega (arith, n .0, n .1, simp length-append at (ap length edit), runs-length (available (lentEntry rows col0) next) 0 cols) in
             record {
               words = laid w rows col0 cols labels m (c .held) .words;
               room = omega (arith, c .held .long);
@@ -247,7 +248,7 @@ module _ (w : List ℕ) (rows : List (List ℕ)) (col0 cols : ℕ) (labels : Lis
             → Becomes v rows col0 cols labels m next (rests + 1) (hi - lo)
         activated-some u v mid rests k p =
             let g = laid w rows col0 cols labels m (c .held) in
-            let listed : kept v ≡ intervals (entry rows col0) cols next =
+            let listed : kept v ≡ intervals (lentEntry rows col0) cols next =
             clear-kept w rows col0 labels g lo hi first end (f .stretch l) u 1 mid rests k v (p .outside) ∙ rw (span-put u v mid (interval row first (end - 1)) p) (sym edit) in
             becomes w v rows col0 cols labels m (c .held) next (p .outside .long ∙ k .long) (p .outside .marked ∙ k .marked ∙ c .held .marked ∙ marked ∙ sym next-mark) listed next-labels next-reached
             (rests + 1) (hi - lo)
@@ -256,7 +257,7 @@ module _ (w : List ℕ) (rows : List (List ℕ)) (col0 cols : ℕ) (labels : Lis
               clear-trims w rows col0 labels g lo hi first end (f .stretch l) u 1 mid rests k,
               ap (cutAt first) (c .held .listed),
               ap (cutAt end) (c .held .listed),
-              activate-inserted (entry rows col0) (length rows) cols m (sound-of (c .held)) row (getD labels row 0) (c .row-new) (c .high) first end at-ends (f .stretch l .ordered),
+              activate-inserted (lentEntry rows col0) (length rows) cols m (sound-of (c .held)) row (getD labels row 0) (c .row-new) (c .high) first end at-ends (f .stretch l .ordered),
             ))
             (omega (arith, p .outside .counted, k .counted, k .number, f .stretch l .inside))
 
@@ -264,8 +265,8 @@ module _ (w : List ℕ) (rows : List (List ℕ)) (col0 cols : ℕ) (labels : Lis
 
 -- the column found is extracted and answered
 pub record MinExtracted (u : List ℕ) (rows : List (List ℕ)) (col0 cols : ℕ) (labels : List ℕ) (m : Model) (answer : Extraction) (inserted removed : ℕ) : Type 0 where
-  pub changed : Becomes u rows col0 cols labels m (extract m (leastFrom (available (entry rows col0) m) 0 cols)) inserted removed
-  pub answer-is : answerOf answer ≡ extractionOf (leastFrom (available (entry rows col0) m) 0 cols)
+  pub changed : Becomes u rows col0 cols labels m (extract m (leastFrom (available (lentEntry rows col0) m) 0 cols)) inserted removed
+  pub answer-is : answerOf answer ≡ extractionOf (leastFrom (available (lentEntry rows col0) m) 0 cols)
 
 abbrev pub ExtractMinLeaves : List ℕ → List ℕ → List (List ℕ) → ℕ → List ℕ → Extraction → ℕ → ℕ → Type 0
 ExtractMinLeaves w u rows col0 labels answer inserted removed =
@@ -275,9 +276,9 @@ module _ (w : List ℕ) (rows : List (List ℕ)) (col0 cols : ℕ) (labels : Lis
   pub extracted-none : LeastLeaves w rows col0 labels lowest.Nothing → MinExtracted w rows col0 cols labels m Nothing 0 0
   unfolding extract
   extracted-none g =
-      let q : nobody ≡ leastFrom (available (entry rows col0) m) 0 cols = g .found cols m h in
+      let q : nobody ≡ leastFrom (available (lentEntry rows col0) m) 0 cols = g .found cols m h in
       record {
-        changed = rw (← q) (becomes w w rows col0 cols labels m h m refl (h .marked) (h .listed) (h .labels-at) (h .reached) 0 0 (sym (countNew-same (intervals (entry rows col0) cols m))) refl);
+        changed = rw (← q) (becomes w w rows col0 cols labels m h m refl (h .marked) (h .listed) (h .labels-at) (h .reached) 0 0 (sym (countNew-same (intervals (lentEntry rows col0) cols m))) refl);
         answer-is = rw (← q);
       }
 
@@ -291,16 +292,16 @@ module _ (w : List ℕ) (rows : List (List ℕ)) (col0 cols : ℕ) (labels : Lis
     extracted-inside = (omega (arith, count-most w rows col0 cols labels m h, h .checked .inside), omega (arith, run-at w rows col0 cols labels m h k l .high, h .checked .inside))
 
     module _ (s : ℕ) where
-      gone : intervals (entry rows col0) cols (extract m (by c s)) ≡ before c (kept w) ++ from (c + 1) (kept w)
+      gone : intervals (lentEntry rows col0) cols (extract m (by c s)) ≡ before c (kept w) ++ from (c + 1) (kept w)
       gone =
           let z : c + 1 ≡ suc c = omega arith in
-          rw (h .listed, z) (extract-edit (entry rows col0) cols m c s (omega (arith, run-at w rows col0 cols labels m h k l .high)))
+          rw (h .listed, z) (extract-edit (lentEntry rows col0) cols m c s (omega (arith, run-at w rows col0 cols labels m h k l .high)))
 
       extracted-room : Room w k (k + 1) c (c + 1) 0
       unfolding intervals
       extracted-room =
           let n = cut-lengths w rows col0 labels (laid w rows col0 cols labels m h) k (k + 1) c (c + 1) extracted-stretch in
-          let x : countAfter w k (k + 1) c (c + 1) 0 ≤ cols = omega (arith, n .0, n .1, simp length-append at (ap length gone), runs-length (available (entry rows col0) (extract m (by c s))) 0 cols) in
+          let x : countAfter w k (k + 1) c (c + 1) 0 ≤ cols = omega (arith, n .0, n .1, simp length-append at (ap length gone), runs-length (available (lentEntry rows col0) (extract m (by c s))) 0 cols) in
           record { words = laid w rows col0 cols labels m h .words; room = omega (arith, h .long); small = omega (arith, h .checked .inside) }
 
       pub extracted-needs : CutNeeds w k c
@@ -310,16 +311,16 @@ module _ (w : List ℕ) (rows : List (List ℕ)) (col0 cols : ℕ) (labels : Lis
           → MinExtracted u rows col0 cols labels m (Column c s) rests 1
       unfolding extract
       extracted-some g u rests x =
-          let q : by c s ≡ leastFrom (available (entry rows col0) m) 0 cols = g .found cols m h in
+          let q : by c s ≡ leastFrom (available (lentEntry rows col0) m) 0 cols = g .found cols m h in
           let e = laid w rows col0 cols labels m h in
           let z : c + 1 ≡ suc c = omega arith in
-          let listed : kept u ≡ intervals (entry rows col0) cols (extract m (by c s)) = cut-kept w rows col0 labels e k c l (i .0) (i .1) u rests x ∙ sym gone in
-          let reached : Reached (entry rows col0) (length rows) cols (extract m (by c s)) =
-          rw (step-extract (entry rows col0) (length rows) cols m extraction refl, ← q) at (reached-step (entry rows col0) (length rows) cols m extraction (h .reached)) in
-          let trims : rests ≡ cutAt c (intervals (entry rows col0) cols m) + cutAt (suc c) (intervals (entry rows col0) cols m) =
+          let listed : kept u ≡ intervals (lentEntry rows col0) cols (extract m (by c s)) = cut-kept w rows col0 labels e k c l (i .0) (i .1) u rests x ∙ sym gone in
+          let reached : Reached (lentEntry rows col0) (length rows) cols (extract m (by c s)) =
+          rw (step-extract (lentEntry rows col0) (length rows) cols m extraction refl, ← q) at (reached-step (lentEntry rows col0) (length rows) cols m extraction (h .reached)) in
+          let trims : rests ≡ cutAt c (intervals (lentEntry rows col0) cols m) + cutAt (suc c) (intervals (lentEntry rows col0) cols m) =
           rw (← h .listed, ← z) (cut-trims w rows col0 labels e k c l (i .0) (i .1) u rests x) in
           record {
             changed = rw (← q) (becomes w u rows col0 cols labels m h (extract m (by c s)) (x .long) (x .marked ∙ h .marked) listed (h .labels-at) reached rests 1
-                (trims ∙ sym (extract-inserted (entry rows col0) cols m c s (omega (arith, run-at w rows col0 cols labels m h k l .high)))) (omega (arith, x .counted)));
+                (trims ∙ sym (extract-inserted (lentEntry rows col0) cols m c s (omega (arith, run-at w rows col0 cols labels m h k l .high)))) (omega (arith, x .counted)));
             answer-is = rw (← q);
           }

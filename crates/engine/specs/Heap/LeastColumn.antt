@@ -11,14 +11,15 @@ use native.Mathlib.Nat.{le-refl, zero-add, add-zero, suc-add, add-suc}
 use native.Mathlib.Omega.{arith}
 use lib.ListN.{getD}
 use Rattle.definitions.specs.Limits.{below}
-use Rattle.definitions.specs.Model.{Best, nobody, by, lesser, placed, leastFrom, Model, available}
+use Rattle.definitions.specs.Best.{Best, nobody, by, lesser, placed, leastFrom}
+use Rattle.definitions.specs.Model.{Model, available}
+use Rattle.definitions.specs.HeapWords.{countOf, parentAt, firstAt, lastAt}
+use Rattle.definitions.specs.HeldModel.{lentEntry, Holds}
 use Rattle.basics.specs.Tests.{split-at, Order, less, more, order}
 use Rattle.heap_laws.specs.Lesser.{lesser-nobody, lesser-assoc}
 use Rattle.heap_laws.specs.Found.{leastFrom-same}
 use Rattle.engine.specs.declared.heap.Lowest.{Lowest}
 use Rattle.engine.specs.declared.heap.Lowest.the-variants.{At, Nothing}
-use Rattle.engine.specs.Promises.Words.{countOf, parentAt, firstAt, lastAt}
-use Rattle.engine.specs.Promises.Heap.{entry, Holds}
 use Rattle.engine.specs.Heap.Search.{sumAt, In}
 use Rattle.engine.specs.Heap.Best.{IsBest, best-is-row}
 use Rattle.engine.specs.Heap.Holds.{run-at, in-order, owned, Where, within, outside, where-is}
@@ -77,14 +78,14 @@ module _ (w : List ℕ) (rows : List (List ℕ)) (col0 : ℕ) (labels : List ℕ
     pub best : bestOf b ≡ lesser (bestOf start) (leastFrom (sums k) (firstAt w k) (lastAt w k + 1 - firstAt w k))
     pub inside : InItsInterval w b
 
-  pub least-in-row : (k : ℕ) (start : Lowest) (c s : ℕ) → k < countOf w → InItsInterval w start → IsBest (entry rows col0 (parentAt w k)) (firstAt w k) (lastAt w k + 1) c
+  pub least-in-row : (k : ℕ) (start : Lowest) (c s : ℕ) → k < countOf w → InItsInterval w start → IsBest (lentEntry rows col0 (parentAt w k)) (firstAt w k) (lastAt w k + 1) c
       → s ≡ sumAt rows col0 labels (parentAt w k) c → LeastInLeaves k start (lowerOf start k c s)
   unfolding sums sumAt
   least-in-row k start c s l h g q =
       let n : ℕ = lastAt w k + 1 - firstAt w k in
       let z : lastAt w k + 1 ≡ firstAt w k + n = omega (arith, g .low, g .high) in
       record {
-        best = rw (lower-best, q, best-is-row (entry rows col0 (parentAt w k)) (parentAt w k) (getD labels (parentAt w k) 0) (firstAt w k) n c (rw z at g));
+        best = rw (lower-best, q, best-is-row (lentEntry rows col0 (parentAt w k)) (parentAt w k) (getD labels (parentAt w k) 0) (firstAt w k) n c (rw z at g));
         inside = lower-kept w start k c s h l (g .low, omega (arith, g .high));
       }
 
@@ -123,10 +124,10 @@ module _ (w : List ℕ) (rows : List (List ℕ)) (col0 cols : ℕ) (labels : Lis
       (split-at k i)
 
   -- between it and the next interval nobody has a column
-  none-between : (i c : ℕ) → i ≤ countOf w → endOf i ≤ c → c < cols → (i < countOf w → c < firstAt w i) → available (entry rows col0) m c ≡ nobody
+  none-between : (i c : ℕ) → i ≤ countOf w → endOf i ≤ c → c < cols → (i < countOf w → c < firstAt w i) → available (lentEntry rows col0) m c ≡ nobody
   none-between i c l a b next = go (where-is w rows col0 cols labels m h c b)
     where
-      go : Where w (available (entry rows col0) m c) c → available (entry rows col0) m c ≡ nobody
+      go : Where w (available (lentEntry rows col0) m c) c → available (lentEntry rows col0) m c ≡ nobody
       go (outside q) = q
       go (within k x y) = ⊎-elim
           (λ (z : k < i). absurd (omega (arith, ends-before i k l z)))
@@ -137,13 +138,13 @@ module _ (w : List ℕ) (rows : List (List ℕ)) (col0 cols : ℕ) (labels : Lis
           (split-at k i)
 
   in-interval : (i : ℕ) → i < countOf w
-      → leastFrom (available (entry rows col0) m) (firstAt w i) (lastAt w i + 1 - firstAt w i) ≡ leastFrom (sums w rows col0 labels i) (firstAt w i) (lastAt w i + 1 - firstAt w i)
+      → leastFrom (available (lentEntry rows col0) m) (firstAt w i) (lastAt w i + 1 - firstAt w i) ≡ leastFrom (sums w rows col0 labels i) (firstAt w i) (lastAt w i + 1 - firstAt w i)
   unfolding sums
   in-interval i l = leastFrom-same _ _ (firstAt w i) (lastAt w i + 1 - firstAt w i) (λ c a b.
       let o = owned w rows col0 cols labels m h i c l (a, omega arith) in
       o .1 ∙ ap (by (parentAt w i)) (o .2 .sum-is))
 
-  among : (i : ℕ) → i ≤ countOf w → leastAmong w rows col0 labels i ≡ leastFrom (available (entry rows col0) m) 0 (endOf i)
+  among : (i : ℕ) → i ≤ countOf w → leastAmong w rows col0 labels i ≡ leastFrom (available (lentEntry rows col0) m) 0 (endOf i)
   unfolding leastAmong endOf leastFrom lesser
   among zero l = refl
   among (suc i) l =
@@ -151,14 +152,14 @@ module _ (w : List ℕ) (rows : List (List ℕ)) (col0 cols : ℕ) (labels : Lis
       let a : endOf i ≤ firstAt w i = begins i l in
       let z : lastAt w i + 1 ≡ endOf i + ((firstAt w i - endOf i) + (lastAt w i + 1 - firstAt w i)) = omega (arith, r .ordered) in
       let y : endOf i + (firstAt w i - endOf i) ≡ firstAt w i = omega arith in
-      let gap : leastFrom (available (entry rows col0) m) (endOf i) (firstAt w i - endOf i) ≡ nobody = leastFrom-none (available (entry rows col0) m) (endOf i) (firstAt w i - endOf i)
+      let gap : leastFrom (available (lentEntry rows col0) m) (endOf i) (firstAt w i - endOf i) ≡ nobody = leastFrom-none (available (lentEntry rows col0) m) (endOf i) (firstAt w i - endOf i)
       (λ c x v. none-between i c (omega arith) x (omega (arith, r .ordered, r .high)) (λ _. omega arith)) in
-      let whole : leastFrom (available (entry rows col0) m) 0 (lastAt w i + 1)
-      ≡ lesser (leastFrom (available (entry rows col0) m) 0 (endOf i)) (leastFrom (available (entry rows col0) m) (firstAt w i) (lastAt w i + 1 - firstAt w i)) =
-      ap (leastFrom (available (entry rows col0) m) 0) z ∙ rw (
-        leastFrom-cut (available (entry rows col0) m) 0 (endOf i) ((firstAt w i - endOf i) + (lastAt w i + 1 - firstAt w i)),
+      let whole : leastFrom (available (lentEntry rows col0) m) 0 (lastAt w i + 1)
+      ≡ lesser (leastFrom (available (lentEntry rows col0) m) 0 (endOf i)) (leastFrom (available (lentEntry rows col0) m) (firstAt w i) (lastAt w i + 1 - firstAt w i)) =
+      ap (leastFrom (available (lentEntry rows col0) m) 0) z ∙ rw (
+        leastFrom-cut (available (lentEntry rows col0) m) 0 (endOf i) ((firstAt w i - endOf i) + (lastAt w i + 1 - firstAt w i)),
         zero-add,
-        leastFrom-cut (available (entry rows col0) m) (endOf i) (firstAt w i - endOf i) (lastAt w i + 1 - firstAt w i),
+        leastFrom-cut (available (lentEntry rows col0) m) (endOf i) (firstAt w i - endOf i) (lastAt w i + 1 - firstAt w i),
         y,
         gap,
       ) in
@@ -168,15 +169,15 @@ module _ (w : List ℕ) (rows : List (List ℕ)) (col0 cols : ℕ) (labels : Lis
       begins zero l = omega arith
       begins (suc i) l = omega (arith, in-order w rows col0 cols labels m h i (suc i) (omega arith) l)
 
-  least-found : (b : Lowest) → LeastKeeps w rows col0 labels (countOf w) b → bestOf b ≡ leastFrom (available (entry rows col0) m) 0 cols
+  least-found : (b : Lowest) → LeastKeeps w rows col0 labels (countOf w) b → bestOf b ≡ leastFrom (available (lentEntry rows col0) m) 0 cols
   unfolding endOf
   least-found b g =
       let e : endOf (countOf w) ≤ cols = most (countOf w) (le-refl _) in
       let z : endOf (countOf w) + (cols - endOf (countOf w)) ≡ cols = omega arith in
-      let gap : leastFrom (available (entry rows col0) m) (endOf (countOf w)) (cols - endOf (countOf w)) ≡ nobody = leastFrom-none (available (entry rows col0) m) (endOf (countOf w)) (cols - endOf (countOf w))
+      let gap : leastFrom (available (lentEntry rows col0) m) (endOf (countOf w)) (cols - endOf (countOf w)) ≡ nobody = leastFrom-none (available (lentEntry rows col0) m) (endOf (countOf w)) (cols - endOf (countOf w))
       (λ c x v. none-between (countOf w) c (le-refl _) x (omega arith) (λ y. absurd (omega arith))) in
-      let y : leastFrom (available (entry rows col0) m) 0 cols ≡ leastFrom (available (entry rows col0) m) 0 (endOf (countOf w)) =
-      ap (leastFrom (available (entry rows col0) m) 0) (sym z) ∙ leastFrom-cut (available (entry rows col0) m) 0 (endOf (countOf w)) (cols - endOf (countOf w)) ∙ rw (zero-add, gap, lesser-nobody) in
+      let y : leastFrom (available (lentEntry rows col0) m) 0 cols ≡ leastFrom (available (lentEntry rows col0) m) 0 (endOf (countOf w)) =
+      ap (leastFrom (available (lentEntry rows col0) m) 0) (sym z) ∙ leastFrom-cut (available (lentEntry rows col0) m) 0 (endOf (countOf w)) (cols - endOf (countOf w)) ∙ rw (zero-add, gap, lesser-nobody) in
       g .best ∙ among (countOf w) (le-refl _) ∙ sym y
     where
       most : (i : ℕ) → i ≤ countOf w → endOf i ≤ cols
@@ -185,7 +186,7 @@ module _ (w : List ℕ) (rows : List (List ℕ)) (col0 cols : ℕ) (labels : Lis
 
 -- what an extraction finds, for every model that the words hold
 pub record LeastLeaves (w : List ℕ) (rows : List (List ℕ)) (col0 : ℕ) (labels : List ℕ) (b : Lowest) : Type 0 where
-  pub found : (cols : ℕ) (m : Model) → Holds w rows col0 cols labels m → bestOf b ≡ leastFrom (available (entry rows col0) m) 0 cols
+  pub found : (cols : ℕ) (m : Model) → Holds w rows col0 cols labels m → bestOf b ≡ leastFrom (available (lentEntry rows col0) m) 0 cols
   pub inside : InItsInterval w b
 
 pub is-least : (w : List ℕ) (rows : List (List ℕ)) (col0 : ℕ) (labels : List ℕ) (b : Lowest) → LeastKeeps w rows col0 labels (countOf w) b → LeastLeaves w rows col0 labels b

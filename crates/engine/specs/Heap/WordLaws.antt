@@ -13,13 +13,12 @@ use native.Mathlib.Nat.{zero-add, add-zero}
 use native.Mathlib.Omega.{arith}
 use lib.ListN.{length, getD, set}
 use lib.Seq.{getD-set-other, sets, length-sets}
-use Rattle.definitions.specs.Model.{Interval, interval}
+use Rattle.definitions.specs.Intervals.{Interval, interval}
 use Rattle.definitions.specs.Entries.{intervalNumbers}
+use Rattle.definitions.specs.HeapWords.{countWord, markWord, headWords, parentWord, firstWord, lastWord, intervalWords, intervalStart, heapWords, countOf, markOf, parentAt, firstAt, lastAt, intervalAt, span}
 use Rattle.basics.specs.Tests.{split-at, Equal, equal, differ, equality}
-use Rattle.preparation.specs.HeapWords.{countWord, markWord, headWords, parentWord, firstWord, lastWord, intervalWords, intervalStart, heapWords}
 use Rattle.engine.specs.Strides.{sets-before, stored-here, stored-other}
 use Rattle.engine.specs.declared.heap.Interval as declared
-use Rattle.engine.specs.Promises.Words.{countOf, markOf, parentAt, firstAt, lastAt, intervalAt, span}
 
 -- one past the greatest word
 abbrev pub wordEnd : ℕ

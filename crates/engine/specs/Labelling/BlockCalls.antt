@@ -16,8 +16,10 @@ use Rattle.definitions.specs.declared.Extraction.{Extraction}
 use Rattle.definitions.specs.Lists.{mem}
 use Rattle.definitions.specs.Network.{Rectangle}
 use Rattle.definitions.specs.Blocks.{Block, noBlock}
-use Rattle.definitions.specs.Model.{Best, nobody, by, lesser, Activation, Model, through, parent, available, leastFrom, judge, activate, extract, extractionOf, Call, Trace, extend}
+use Rattle.definitions.specs.Best.{Best, nobody, by, lesser, leastFrom}
+use Rattle.definitions.specs.Model.{Activation, Model, through, parent, available, judge, activate, extract, extractionOf, Call, Trace, extend}
 use Rattle.definitions.specs.Labelling.{BlockState, noBlockState, activation, extraction, apply, leastOf}
+use Rattle.definitions.specs.HeldModel.{lentEntry, Holds}
 use Rattle.basics.specs.Tests.{Truth, holds, fails, truth, Equal, equal, differ, equality}
 use Rattle.heap_laws.specs.Lesser.{UpTo, upTo-lesser, from-is, upTo-is}
 use Rattle.heap_laws.specs.Parents.{parent-snoc}
@@ -27,7 +29,6 @@ use Rattle.heap_laws.specs.Agree.{leastFrom-agree, extend-agree}
 use Rattle.preparation.specs.Prepared.{rowIn, colIn, colsIn, rowCountIn}
 use Rattle.engine.specs.declared.heap.Lowest as code
 use Rattle.engine.specs.declared.blocks.Numbers.{Numbers}
-use Rattle.engine.specs.Promises.Heap.{entry, Holds}
 use Rattle.engine.specs.Heap.Holds.{sound-of}
 use Rattle.engine.specs.Heap.LeastColumn.{LeastLeaves, bestOf}
 use Rattle.engine.specs.Heap.HeapCalls.{Becomes, ActivateGiven, MinExtracted}
@@ -138,7 +139,7 @@ module _ {h : Heaps} {bs : List Block} {ss : List BlockState} (held : HoldsBlock
 
     -- the block's entries, in the matrix
     abbrev e : Rectangle
-    e = entry window col0
+    e = lentEntry window col0
 
     lies : BlockLies (h .tables) b (state .block)
     lies = rw (block-same b) at (held .parted .lies b l)

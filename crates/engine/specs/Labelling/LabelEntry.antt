@@ -14,10 +14,11 @@ use Rattle.definitions.specs.Limits.{maxSize, sizePlaces, vertexPlaces, lengthP
 use Rattle.definitions.specs.Lists.{firstCause, Every}
 use Rattle.definitions.specs.Network.{Piece}
 use Rattle.definitions.specs.Blocks.{blocks}
-use Rattle.definitions.specs.declared.LabelAnswer.{LabelAnswer}
 use Rattle.definitions.specs.Labelling.{labelling, labels}
 use Rattle.definitions.specs.Judgement.{judgeBounds, judgeSource, judgePiece, pieceAt, piecesOf, judgeFrom, judgeNetwork}
-use Rattle.definitions.specs.Entries.{hasPlaces, judgeBuffers, AfterLabel, judgeLabelling, labelAnswer, labelRefusal, labelNetwork}
+use Rattle.definitions.specs.Entries.{hasPlaces, judgeBuffers, AfterLabel, judgeLabelling, labelAnswer, labelRefusal, labelNetwork, judgeLent}
+use Rattle.definitions.specs.PlainPromises.{PlainLabels}
+use Rattle.definitions.specs.declared.LabelAnswer.{LabelAnswer}
 use Rattle.basics.specs.Tests.{split-at, Equal, equal, differ, equality}
 use Rattle.basics.specs.Causes.{passed, no-cause, test-holds, bounds-in, buffers-are}
 use Rattle.preparation.specs.Prepared.{matrixOf, tablesOf, maxWords}
@@ -28,12 +29,10 @@ use Rattle.labelling_laws.specs.PieceBlocks.{setting}
 use Rattle.labelling_laws.specs.LentNetworks.{lent-accepted}
 use Rattle.labelling_laws.specs.LabellingTheorems as theorems
 use Rattle.labelling_laws.specs.LabellingTheorems.{labels-are-distances, held-limited, reached-counts, few-extractions, few-insertions}
-use Rattle.judgements.specs.LentPieces.{judgeLent}
 use Rattle.engine.specs.Tree.TreeWords.{treeWords, idle}
 use Rattle.engine.specs.Labelling.Begins.{tablesFor, prepared, freshArrays, begins}
 use Rattle.engine.specs.Labelling.Mapped.{mapped}
 use Rattle.engine.specs.Labelling.StepLoop.{store, IsLabelling, LabelAllGiven, LabelAllNeeds}
-use Rattle.engine.specs.Promises.Entries.{PlainLabels}
 
 -- ---- the judgement
 

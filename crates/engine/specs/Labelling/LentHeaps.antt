@@ -15,10 +15,10 @@ use lib.Seq.{length-take-le, take-at, drop-at, take-take, drop-drop, take-add}
 use Rattle.definitions.specs.Limits.{vertexPlaces}
 use Rattle.definitions.specs.Blocks.{Block}
 use Rattle.definitions.specs.Labelling.{BlockState, noBlockState}
-use Rattle.preparation.specs.HeapWords.{heapWords}
+use Rattle.definitions.specs.HeapWords.{heapWords}
+use Rattle.definitions.specs.HeldModel.{Holds}
 use Rattle.preparation.specs.Prepared.{slotIn, rowIn, colsIn, rowCountIn, maxWords}
 use Rattle.engine.specs.declared.blocks.Numbers.{Numbers}
-use Rattle.engine.specs.Promises.Heap.{Holds}
 use Rattle.engine.specs.Labelling.State.{Tables, Heaps, heapIn, windowIn, labelsIn, numbersIn, HoldsBlocks}
 
 -- ---- a part of a list

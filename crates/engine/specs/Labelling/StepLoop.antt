@@ -15,9 +15,9 @@ use native.Mathlib.Omega.{arith}
 use lib.ListN.{getD, length, set, replicate, length-append, length-replicate}
 use Rattle.definitions.specs.Limits.{maxVertices, maxSize, labelPlaces, unreached}
 use Rattle.definitions.specs.Lists.{total}
-use Rattle.definitions.specs.Model.{nobody, by}
 use Rattle.definitions.specs.Network.{Piece}
 use Rattle.definitions.specs.Blocks.{Block, noBlock, blocks}
+use Rattle.definitions.specs.Best.{nobody, by}
 use Rattle.definitions.specs.Labelling.{BlockState, extraction, freshBlock, activateVertex, settledAt, State, labelOf, chosen, advance, steps, start, columns, labelling, reached, extractions, insertions, labels}
 use Rattle.definitions.specs.Entries.{labelAnswer}
 use Rattle.definitions.specs.declared.LabelAnswer.{LabelAnswer}

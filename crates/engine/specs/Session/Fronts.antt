@@ -15,10 +15,10 @@ use Rattle.definitions.specs.Limits.{answerSize, intervalSize, unusedInterval}
 use Rattle.definitions.specs.Lists.{upFrom, padded}
 use Rattle.definitions.specs.Model.{Answer}
 use Rattle.definitions.specs.Entries.{answerNumbers, answerAt, answersIn, intervalNumbers}
+use Rattle.definitions.specs.HeapWords.{countOf, intervalAt, span, kept}
 use Rattle.basics.specs.Buffers.{flatMap-snoc, front-sets, front-full}
 use Rattle.basics.specs.Sequences.{map-next}
 use Rattle.engine.specs.Strides.{group-behind}
-use Rattle.engine.specs.Promises.Words.{countOf, intervalAt, span, kept}
 use Rattle.engine.specs.Heap.WordLaws.{Word, span-cut, numbers-long}
 
 -- the numbers xs are those of the first k places

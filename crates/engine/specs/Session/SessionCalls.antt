@@ -17,17 +17,19 @@ use lib.Seq.{getD-set-same, getD-set-other}
 use Rattle.definitions.specs.declared.Extraction.the-variants.{Column, Nothing}
 use Rattle.definitions.specs.Limits.{maxLabel, unreached}
 use Rattle.definitions.specs.Lists.{Every}
-use Rattle.definitions.specs.Model.{Best, nobody, by, Activation, Model, activate, extract, available, leastFrom, extractionOf, answerOf, isActivated, intervals, countNew, Call, Answer, judge}
+use Rattle.definitions.specs.Best.{Best, nobody, by, leastFrom}
+use Rattle.definitions.specs.Intervals.{countNew}
+use Rattle.definitions.specs.Model.{Activation, Model, activate, extract, available, extractionOf, answerOf, isActivated, intervals, Call, Answer, judge}
 use Rattle.definitions.specs.Labelling.{activation}
+use Rattle.definitions.specs.HeldModel.{lentEntry}
+use Rattle.definitions.specs.CallChains.{SessionHolds, stepOf, answerIn, Steps}
 use Rattle.basics.specs.Tests.{clash, or-left, or-right, Truth, holds, fails, truth}
 use Rattle.heap_laws.specs.ModelCalls.{Activates, Cases, activates, extracts, refuses, cases, step-activate, step-extract, step-refused}
 use Rattle.heap_laws.specs.Parents.{isActivated-snoc}
 use Rattle.heap_laws.specs.Counting.{countNew-same}
 use Rattle.heap_laws.specs.Extract.{extracts-least}
 use Rattle.heap_laws.specs.TraceCounts.{call-balance, step-allowed}
-use Rattle.engine.specs.declared.session.Called.{Called}
-use Rattle.engine.specs.Promises.Heap.{entry}
-use Rattle.engine.specs.Promises.Session.{SessionHolds, stepOf, answerIn, Steps}
+use Rattle.definitions.specs.declared.Called.{Called}
 use Rattle.engine.specs.Heap.Holds.{all-pairs, sound-of, relabelled}
 use Rattle.engine.specs.Heap.HeapCalls.{Becomes, ActivateGiven, MinExtracted}
 
@@ -37,17 +39,17 @@ refusal code floor = record { code = code; column = 0; sum = 0; floor = floor; i
 -- with the next model, its answer and its counts come the allowance, the balance and the least
 stepped : (rows : List (List ℕ)) (cols : ℕ) (heap₀ labels₀ : List ℕ) (floor : ℕ) (m : Model) → SessionHolds rows cols heap₀ labels₀ floor m
     → (k : Call) (heap labels : List ℕ) (r : Called) → SessionHolds rows cols heap labels (r .floor) (stepOf rows cols m k .model) → answerIn r ≡ stepOf rows cols m k .answer
-    → r .inserted ≡ countNew (intervals (entry rows 0) cols (stepOf rows cols m k .model)) (intervals (entry rows 0) cols m)
-    → r .removed ≡ countNew (intervals (entry rows 0) cols m) (intervals (entry rows 0) cols (stepOf rows cols m k .model))
+    → r .inserted ≡ countNew (intervals (lentEntry rows 0) cols (stepOf rows cols m k .model)) (intervals (lentEntry rows 0) cols m)
+    → r .removed ≡ countNew (intervals (lentEntry rows 0) cols m) (intervals (lentEntry rows 0) cols (stepOf rows cols m k .model))
     → Steps rows cols m k heap labels r
 stepped rows cols heap₀ labels₀ floor m s k heap labels r next answer inserted removed = record {
   keeps = next;
   answer-is = answer;
   inserted-is = inserted;
   removed-is = removed;
-  few = rw answer (omega (arith, inserted, step-allowed (entry rows 0) (length rows) cols (all-pairs (s .held .checked)) m k (sound-of (s .held))));
-  balanced = omega (arith, inserted, removed, call-balance (entry rows 0) cols m (stepOf rows cols m k .model), ap length (next .held .listed));
-  least = λ q. rw answer (extracts-least (entry rows 0) (length rows) cols m k q);
+  few = rw answer (omega (arith, inserted, step-allowed (lentEntry rows 0) (length rows) cols (all-pairs (s .held .checked)) m k (sound-of (s .held))));
+  balanced = omega (arith, inserted, removed, call-balance (lentEntry rows 0) cols m (stepOf rows cols m k .model), ap length (next .held .listed));
+  least = λ q. rw answer (extracts-least (lentEntry rows 0) (length rows) cols m k q);
 }
 
 -- ---- refused
@@ -55,8 +57,8 @@ stepped rows cols heap₀ labels₀ floor m s k heap labels r next answer insert
 module _ (rows : List (List ℕ)) (cols : ℕ) (heap labels : List ℕ) (floor : ℕ) (m : Model) (s : SessionHolds rows cols heap labels floor m) where
   pub steps-refused : (k : Call) (code : ℕ) → code ≡ judge (length rows) m k → code ≢ 0 → Steps rows cols m k heap labels (refusal code floor)
   steps-refused k code e n =
-      let q = step-refused (entry rows 0) (length rows) cols m k (λ z. n (e ∙ z)) in
-      stepped rows cols heap labels floor m s k heap labels (refusal code floor) (rw q s) (rw (q, e)) (rw q (sym (countNew-same (intervals (entry rows 0) cols m)))) (rw q (sym (countNew-same (intervals (entry rows 0) cols m))))
+      let q = step-refused (lentEntry rows 0) (length rows) cols m k (λ z. n (e ∙ z)) in
+      stepped rows cols heap labels floor m s k heap labels (refusal code floor) (rw q s) (rw (q, e)) (rw q (sym (countNew-same (intervals (lentEntry rows 0) cols m)))) (rw q (sym (countNew-same (intervals (lentEntry rows 0) cols m))))
 
   -- any other kind of call
   pub steps-other : (k : Call) → k .kind ≢ 1 → k .kind ≢ 2 → Steps rows cols m k heap labels (refusal 9 floor)
@@ -128,7 +130,7 @@ module _ (rows : List (List ℕ)) (cols : ℕ) (heap labels : List ℕ) (floor :
         → Steps rows cols m (activation row label) u written (record { code = 0; column = 0; sum = 0; floor = floor; inserted = inserted; removed = removed })
     unfolding activate
     steps-activate u inserted removed b =
-        let q = step-activate (entry rows 0) (length rows) cols m (activation row label) allowed in
+        let q = step-activate (lentEntry rows 0) (length rows) cols m (activation row label) allowed in
         let c = rw label-there at b in
         stepped rows cols heap labels floor m s (activation row label) u written _ (rw q (record { held = c .held; unlabelled = others; floor-is = s .floor-is })) (rw q) (rw q (c .inserted-is)) (rw q (c .removed-is))
       where
@@ -142,10 +144,10 @@ module _ (rows : List (List ℕ)) (cols : ℕ) (heap labels : List ℕ) (floor :
 
 module _ (rows : List (List ℕ)) (cols : ℕ) (heap labels : List ℕ) (floor : ℕ) (m : Model) (s : SessionHolds rows cols heap labels floor m) (k : Call) (kind-is : k .kind ≡ 2) (u : List ℕ) (inserted removed : ℕ) where
   abbrev found : Best
-  found = leastFrom (available (entry rows 0) m) 0 cols
+  found = leastFrom (available (lentEntry rows 0) m) 0 cols
 
   asked : stepOf rows cols m k ≡ record { model = extract m found; answer = extractionOf found }
-  asked = step-extract (entry rows 0) (length rows) cols m k kind-is
+  asked = step-extract (lentEntry rows 0) (length rows) cols m k kind-is
 
   pub steps-none : MinExtracted u rows 0 cols labels m Nothing inserted removed → Steps rows cols m k u labels (refusal 50 floor)
   unfolding extract
@@ -156,7 +158,7 @@ module _ (rows : List (List ℕ)) (cols : ℕ) (heap labels : List ℕ) (floor :
           let q = rw e at asked in
           let b = rw e at (t .changed) in
           stepped rows cols heap labels floor m s k u labels (refusal 50 floor) (rw q (record { held = b .held; unlabelled = s .unlabelled; floor-is = s .floor-is })) (rw q)
-          (rw q (sym (countNew-same (intervals (entry rows 0) cols m)))) (rw q (sym (countNew-same (intervals (entry rows 0) cols m))))
+          (rw q (sym (countNew-same (intervals (lentEntry rows 0) cols m)))) (rw q (sym (countNew-same (intervals (lentEntry rows 0) cols m))))
       go (by c d) e = absurd (omega (arith, ap (λ (a : Answer). a .code) (rw e at (t .answer-is))))
 
   pub steps-column : (column sum : ℕ) → MinExtracted u rows 0 cols labels m (Column column sum) inserted removed

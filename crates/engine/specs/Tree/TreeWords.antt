@@ -12,7 +12,7 @@ use mathlib.Core.Logic.{_≢_}
 use Prim.Native.Nat.{ℕ, _+_, _-_, _*_, _^_, _≤_, _<_, min}
 use native.Mathlib.Omega.{arith}
 use lib.ListN.{getD, length}
-use Rattle.definitions.specs.Model.{Best, nobody, by, leastFrom}
+use Rattle.definitions.specs.Best.{Best, nobody, by, leastFrom}
 use Rattle.preparation.specs.Prepared.{maxBlocks}
 use Rattle.engine.specs.declared.tree.Chosen.{Chosen}
 use Rattle.engine.specs.declared.tree.Chosen.the-variants.{Block, Nothing}

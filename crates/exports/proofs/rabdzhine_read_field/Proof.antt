@@ -1,7 +1,7 @@
 -- `rabdzhine_read_field`: a buffer of another size is left, else its one place holds the number that was read, or 0.
 use mathlib.Core.Path.{sym, ap, _∙_}
-use Rattle.definitions.specs.Text.{aField, noField, fieldAnswer}
-use Rattle.exports.specs.Laws.{field-size, field-left}
+use Rattle.definitions.specs.Fields.{aField, noField, fieldAnswer}
+use Rattle.exports.specs.FieldEntryLaws.{field-size, field-left}
 use borrow.Author.Needs.{needs}
 use Rattle.exports.proofs.rabdzhine_read_field.Statement.{statement}
 use Rattle.exports.proofs.rabdzhine_read_field.Tie as tie

@@ -4,7 +4,8 @@ use Prim.Native.Nat.{_≤_, _-_}
 use native.Mathlib.Omega.{arith}
 use borrow.Author.Needs.{needs}
 use lib.ListN.{length, take}
-use Rattle.definitions.specs.Text.{FieldAnswer, fieldAt, fieldAnswer, readFields}
+use Rattle.definitions.specs.Fields.{FieldAnswer, fieldAt, fieldAnswer}
+use Rattle.definitions.specs.Reading.{readFields}
 use Rattle.text.specs.ReadSteps.{after, after-none, fields-turn, field-inside}
 use Rattle.text.specs.Returns.{fields-broken, fields-ended}
 use Rattle.text.proofs.read_fields.Statement.{statement}

@@ -1,6 +1,6 @@
 -- `read_lengths`: a length field is read like any other.
 use borrow.Author.Needs.{needs}
-use Rattle.definitions.specs.Text.{lengthAt}
+use Rattle.definitions.specs.Fields.{lengthAt}
 use Rattle.text.proofs.read_lengths.Statement.{statement}
 use Rattle.text.proofs.read_lengths.Tie as tie
 

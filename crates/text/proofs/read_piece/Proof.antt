@@ -2,7 +2,7 @@
 use Prim.Native.Nat.{_*_, _≤_}
 use native.Mathlib.Omega.{arith}
 use borrow.Author.Needs.{needs}
-use Rattle.definitions.specs.Text.{lineBytes}
+use Rattle.definitions.specs.Reading.{lineBytes}
 use Rattle.text.specs.PieceReading.{Sized, size-facts, sizes-long, free-of, piece-unsized, piece-unread, piece-read, maxTableBytes, table-few}
 use Rattle.text.proofs.read_piece.Statement.{statement}
 use Rattle.text.proofs.read_piece.Tie as tie

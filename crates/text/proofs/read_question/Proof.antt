@@ -4,7 +4,7 @@ use mathlib.Core.Logic.{_≢_}
 use Prim.Native.Nat.{_+_}
 use native.Mathlib.Omega.{arith}
 use lib.ListN.{length}
-use Rattle.definitions.specs.Text.{lineBytes}
+use Rattle.definitions.specs.Reading.{lineBytes}
 use Rattle.text.specs.Plans.{question-line, question-source, question-open, question-done}
 use borrow.Author.Needs.{needs}
 use Rattle.text.proofs.read_question.Statement.{statement}

@@ -4,7 +4,7 @@ use mathlib.Core.Logic.{_≢_}
 use Prim.Native.Nat.{ℕ}
 use native.Mathlib.Omega.{arith}
 use Rattle.definitions.specs.Judgement.{judgeSize}
-use Rattle.definitions.specs.Text.{fieldAt, fieldAnswer}
+use Rattle.definitions.specs.Fields.{fieldAt, fieldAnswer}
 use Rattle.text.specs.ReadSteps.{field-go, field-stop, judged-stop}
 use Rattle.text.specs.Returns.{came-out, came-judged}
 use borrow.Author.Needs.{needs}

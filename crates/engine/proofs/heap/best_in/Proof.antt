@@ -3,7 +3,7 @@ use mathlib.Core.Path.{_≡_, refl}
 use mathlib.Core.Logic.{⊎-elim}
 use Prim.Native.Nat.{_-_, _≤_}
 use native.Mathlib.Omega.{arith}
-use Rattle.engine.specs.Promises.Heap.{entry}
+use Rattle.definitions.specs.HeldModel.{lentEntry}
 use Rattle.engine.specs.Heap.Best.{IsBest, best-first, best-keep, best-lower}
 use borrow.Author.Needs.{needs}
 use Rattle.engine.proofs.heap.best_in.Statement.{statement}
@@ -11,17 +11,17 @@ use Rattle.engine.proofs.heap.best_in.Tie as tie
 
 abbrev Inv-loop : tie.InvT-loop
 Inv-loop rows col0 row first end best₀ least₀ column₀ best least column =
-    (column ≤ end) × (least ≡ entry rows col0 row best) × IsBest (entry rows col0 row) first column best
+    (column ≤ end) × (least ≡ lentEntry rows col0 row best) × IsBest (lentEntry rows col0 row) first column best
 
 abbrev μ-loop : tie.MeasureT-loop
 μ-loop rows col0 row first end best₀ least₀ column₀ best least column = end - column
 
 loop-holds : tie.Need-loop-holds Inv-loop μ-loop
-unfolding entry
+unfolding lentEntry
 loop-holds c = (omega arith, refl, best-first _ _)
 
 loop-again : tie.Need-loop-again Inv-loop μ-loop
-unfolding entry
+unfolding lentEntry
 loop-again c =
     let l = c .before .before .before .loop in
     ⊎-elim

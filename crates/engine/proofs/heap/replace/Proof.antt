@@ -3,7 +3,7 @@ use mathlib.Core.Path.{_∙_}
 use Prim.Native.Nat.{_+_, _-_, _≤_, _<_}
 use native.Mathlib.Omega.{arith}
 use lib.ListN.{length, length-set}
-use Rattle.preparation.specs.HeapWords.{heapWords}
+use Rattle.definitions.specs.HeapWords.{heapWords}
 use Rattle.engine.specs.Heap.WordLaws.{wordEnd}
 use Rattle.engine.specs.Heap.Clear.{replace-room, replaced}
 use borrow.Author.Needs.{needs}

@@ -38,7 +38,7 @@ use denote.Triple.Table.{entered, cited}
 use denote.Triple.Walked.{says, Stays, stay-none, stay-none-slice, walkOf, goes-none, goes-none-slice, Walks, ends-at, walked, walk-meets}
 use denote.Exit.{yes}
 use denote.Triple.Clauses.{ensured, lasts}
-use Rattle.definitions.specs.Text.{FieldAnswer, fieldAt, fieldAnswer}
+use Rattle.definitions.specs.Fields.{FieldAnswer, fieldAt, fieldAnswer}
 use Rattle.text.specs.declared.field_reader.Reader.{Reader}
 use Rattle.definitions.specs.declared.Field.{Field}
 use Rattle.text.proofs.field_reader.Reader as T

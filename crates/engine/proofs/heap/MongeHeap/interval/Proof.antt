@@ -1,7 +1,7 @@
 -- `MongeHeap::interval` reads the words of one interval.
 use mathlib.Core.Path.{refl}
 use borrow.Author.Needs.{needs}
-use Rattle.engine.specs.Promises.Words.{parentAt, firstAt, lastAt, intervalAt}
+use Rattle.definitions.specs.HeapWords.{parentAt, firstAt, lastAt, intervalAt}
 use Rattle.engine.proofs.heap.MongeHeap.interval.Statement.{statement}
 use Rattle.engine.proofs.heap.MongeHeap.interval.Tie as tie
 

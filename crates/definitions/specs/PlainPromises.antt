@@ -1,5 +1,5 @@
--- What public functions promise beside their equation with the definition, in plain terms. Definitions only.
---   PlainSession   the intervals that an accepted session keeps, their order, its counts, and what its extractions answer
+-- What the session and the labelling promise in plain terms, beside their equations with `session` and `labelNetwork` of the file `Entries`.
+--   PlainSession   the intervals that an accepted session keeps, its counts, and what its extractions answer
 --   PlainLabels    the labels of an accepted network, demand 2, and the counts
 use mathlib.Core.Path.{_≡_}
 use mathlib.Core.Bool.{not}
@@ -8,15 +8,16 @@ use mathlib.Core.Logic.{_≢_}
 use Prim.Native.Nat.{ℕ, suc, _+_, _*_, _≤_, _<_}
 use lib.Dec.{eqb}
 use lib.ListN.{getD, length}
 use Rattle.definitions.specs.declared.LabelAnswer.{LabelAnswer}
 use Rattle.definitions.specs.declared.SessionAnswer.{SessionAnswer}
 use Rattle.definitions.specs.Limits.{maxLabel, labelPlaces, unreached}
 use Rattle.definitions.specs.Lists.{count}
 use Rattle.definitions.specs.Network.{Distance}
 use Rattle.definitions.specs.Blocks.{weight}
-use Rattle.definitions.specs.Model.{fresh, Interval, intervals, Rising, trace, AllExtractLeast, allowances}
+use Rattle.definitions.specs.Intervals.{Interval, Rising}
+use Rattle.definitions.specs.Model.{fresh, intervals, trace, AllExtractLeast, allowances}
 use Rattle.definitions.specs.Judgement.{piecesOf}
 use Rattle.definitions.specs.Entries.{rectangleOf, callsOf, answersIn, intervalsOf}
 
 -- What an accepted session returns and leaves. The interval buffer holds exactly the model's intervals. Document 01 leaves their order open; here they
 -- rise: each begins after the one before it ends, so none stands twice.
@@ -29,10 +30,10 @@ pub record PlainSession (rows cols count : ℕ) (lengths calls : List ℕ) (r : 
   pub balanced : r .inserted ≡ r .removed + length kept
   -- three inserted at most by each activation that is done, two by each extraction that hands out a column, none by any other call
   pub few : r .inserted ≤ allowances (callsOf calls count) (answersIn answers count)
-  -- each extraction answers none exactly if no interval is left where its turn comes, else the least sum left and the lowest column of it
+  -- each extraction answers that nothing is left exactly if there is no interval where its turn comes, else the least sum left and the lowest column of it
   pub least : AllExtractLeast (rectangleOf lengths) rows cols fresh (callsOf calls count) (answersIn answers count)
 
--- The labels are distances of at most 25,499,745, places above n are unreached, and the counts are bounded by the sum over the pieces of m·⌈log₂ m⌉.
+-- The labels are distances and at most `maxLabel`, places above n are unreached, and the counts are bounded by the sum over the pieces of m·⌈log₂ m⌉.
 pub record PlainLabels (n p : ℕ) (sizes vertices lengths : List ℕ) (source : ℕ) (r : LabelAnswer) (after : List ℕ) : Type 0 where
   pub distances : (i : ℕ) → i < labelPlaces → Distance (piecesOf p sizes vertices lengths) source (suc i) (getD after i 0)
   pub limited : (i : ℕ) → i < labelPlaces → getD after i 0 ≢ unreached → getD after i 0 ≤ maxLabel

@@ -1,22 +1,22 @@
--- Demand 3 on the code, heap part: one claim about the whole list of calls, of any length and of any calls. Definitions only.
---   SessionHolds                    words, labels and floor are those of a model
---   Steps Promised           what the function `call` promises: they become those of the next model
+-- Demand 3 on the code, heap part: one claim about the whole list of calls, of any length and of any calls.
+--   SessionHolds             words, labels and floor are those of a model
+--   Steps Promised           what the engine's function `call` promises: they become those of the next model
 --   Fresh                    what the first call is lent
---   Agrees Ran               after any number of calls; what the function `run_calls` promises
+--   Agrees Ran               after any number of calls; what the engine's function `run_calls` promises
 --   Exchange Chain Follows   any chain of calls, and the claim about it that the theorem `demand3` proves
 use mathlib.Core.Path.{_≡_}
 use mathlib.Core.Bool.{false}
 use mathlib.Core.List.{List, [], _∷_, _++_, map, flatMap}
 use Prim.Native.Nat.{ℕ, _+_, _*_, _≤_, _<_}
 use lib.ListN.{getD, length, drop, replicate}
+use Rattle.definitions.specs.declared.Called.{Called}
 use Rattle.definitions.specs.Limits.{maxSide, rowPlaces, answerSize, unreached}
 use Rattle.definitions.specs.Lists.{total, Every}
-use Rattle.definitions.specs.Model.{Model, fresh, isActivated, intervals, Distinct, countNew, Call, Answer, Stepped, step, allowance, ExtractsLeast, Trace, trace, AllExtractLeast, allowances}
+use Rattle.definitions.specs.Intervals.{Distinct, countNew}
+use Rattle.definitions.specs.Model.{Model, fresh, isActivated, intervals, Call, extracts, Answer, Stepped, step, allowance, ExtractsLeast, Trace, trace, AllExtractLeast, allowances}
 use Rattle.definitions.specs.Entries.{answerNumbers}
-use Rattle.preparation.specs.HeapWords.{heapWords}
-use Rattle.engine.specs.declared.session.Called.{Called}
-use Rattle.engine.specs.Promises.Words.{kept}
-use Rattle.engine.specs.Promises.Heap.{entry, Checked, Holds}
+use Rattle.definitions.specs.HeapWords.{heapWords, kept}
+use Rattle.definitions.specs.HeldModel.{lentEntry, Checked, Holds}
 
 -- ---- one call
 
@@ -28,7 +28,7 @@ pub record SessionHolds (rows : List (List ℕ)) (cols : ℕ) (heap labels : Lis
 
 -- what the model does at a call
 abbrev pub stepOf : List (List ℕ) → ℕ → Model → Call → Stepped
-stepOf rows cols m k = step (entry rows 0) (length rows) cols m k
+stepOf rows cols m k = step (lentEntry rows 0) (length rows) cols m k
 
 -- code, column and sum of what a call returns
 abbrev pub answerIn : Called → Answer
@@ -38,14 +38,14 @@ answerIn r = record { code = r .code; column = r .column; sum = r .sum }
 pub record Steps (rows : List (List ℕ)) (cols : ℕ) (m : Model) (k : Call) (heap labels : List ℕ) (r : Called) : Type 0 where
   pub keeps : SessionHolds rows cols heap labels (r .floor) (stepOf rows cols m k .model)
   pub answer-is : answerIn r ≡ stepOf rows cols m k .answer
-  pub inserted-is : r .inserted ≡ countNew (intervals (entry rows 0) cols (stepOf rows cols m k .model)) (intervals (entry rows 0) cols m)
-  pub removed-is : r .removed ≡ countNew (intervals (entry rows 0) cols m) (intervals (entry rows 0) cols (stepOf rows cols m k .model))
+  pub inserted-is : r .inserted ≡ countNew (intervals (lentEntry rows 0) cols (stepOf rows cols m k .model)) (intervals (lentEntry rows 0) cols m)
+  pub removed-is : r .removed ≡ countNew (intervals (lentEntry rows 0) cols m) (intervals (lentEntry rows 0) cols (stepOf rows cols m k .model))
   -- three inserted at most by an activation, two by an extraction, none by a call that is refused or finds no interval
   pub few : r .inserted ≤ allowance k (answerIn r)
   -- kept before and inserted are together removed and kept after
-  pub balanced : length (intervals (entry rows 0) cols m) + r .inserted ≡ r .removed + length (kept heap)
+  pub balanced : length (intervals (lentEntry rows 0) cols m) + r .inserted ≡ r .removed + length (kept heap)
   -- an extraction answers none exactly if no interval is left, else the least that is left
-  pub least : k .kind ≡ 2 → ExtractsLeast (entry rows 0) cols m (answerIn r)
+  pub least : k .kind ≡ extracts → ExtractsLeast (lentEntry rows 0) cols m (answerIn r)
 
 -- what `call` promises, given these words, labels and floor: whatever model they are those of, it makes the call k on it
 abbrev pub Promised : List (List ℕ) → ℕ → List ℕ → List ℕ → ℕ → Call → List ℕ → List ℕ → Called → Type 0
@@ -61,13 +61,13 @@ pub record Fresh (rows : List (List ℕ)) (cols : ℕ) (heap labels : List ℕ) 
 
 -- the trace of calls on the lent rows
 abbrev pub traceOf : List (List ℕ) → ℕ → List Call → Trace
-traceOf rows cols ks = trace (entry rows 0) (length rows) cols ks
+traceOf rows cols ks = trace (lentEntry rows 0) (length rows) cols ks
 
 -- The words and labels are those of the model that the calls ks leave, and the counts are those of their trace.
 pub record Agrees (rows : List (List ℕ)) (cols : ℕ) (ks : List Call) (heap labels : List ℕ) (inserted removed : ℕ) : Type 0 where
   pub keeps : SessionHolds rows cols heap labels (traceOf rows cols ks .model .floor) (traceOf rows cols ks .model)
   -- the kept intervals are exactly the model's, each once
-  pub kept-are : kept heap ≡ intervals (entry rows 0) cols (traceOf rows cols ks .model)
+  pub kept-are : kept heap ≡ intervals (lentEntry rows 0) cols (traceOf rows cols ks .model)
   pub once : Distinct (kept heap)
   pub inserted-is : inserted ≡ traceOf rows cols ks .inserted
   pub removed-is : removed ≡ traceOf rows cols ks .removed
@@ -76,7 +76,7 @@ pub record Agrees (rows : List (List ℕ)) (cols : ℕ) (ks : List Call) (heap l
   -- three inserted at most by each activation, two by each extraction, none by any other call
   pub few : inserted ≤ allowances ks (traceOf rows cols ks .answers)
   -- each extraction answers none exactly if no interval is left where its turn comes, else the least that is left
-  pub least : AllExtractLeast (entry rows 0) (length rows) cols fresh ks (traceOf rows cols ks .answers)
+  pub least : AllExtractLeast (lentEntry rows 0) (length rows) cols fresh ks (traceOf rows cols ks .answers)
 
 -- What `run_calls` promises of the calls ks: the answers stand at the front of their buffer, and the rest is as `before`.
 pub record Ran (rows : List (List ℕ)) (cols : ℕ) (ks : List Call) (heap labels before answers : List ℕ) (inserted removed : ℕ) : Type 0 where
@@ -86,7 +86,7 @@ pub record Ran (rows : List (List ℕ)) (cols : ℕ) (ks : List Call) (heap labe
 -- ---- any chain of calls
 
 -- what is lent to a call: the heap's words, the labels and the floor
-pub record State : Type 0 where
+pub record CallState : Type 0 where
   pub heap : List ℕ
   pub labels : List ℕ
   pub floor : ℕ
@@ -97,9 +97,9 @@ pub record Exchange : Type 0 where
   pub called : Called
 
 -- Calls one after the other: the first one is lent a fresh heap and the floor 0, each other one what the one before it left, and each is as `call` promises.
-pub data Chain (rows : List (List ℕ)) (cols : ℕ) : List Exchange → State → Type 0 where
-  start : {s : State} → Fresh rows cols (s .heap) (s .labels) → s .floor ≡ 0 → Chain rows cols [] s
-  then : {xs : List Exchange} {s t : State} (x : Exchange) → Chain rows cols xs s
+pub data Chain (rows : List (List ℕ)) (cols : ℕ) : List Exchange → CallState → Type 0 where
+  start : {s : CallState} → Fresh rows cols (s .heap) (s .labels) → s .floor ≡ 0 → Chain rows cols [] s
+  then : {xs : List Exchange} {s t : CallState} (x : Exchange) → Chain rows cols xs s
       → Promised rows cols (s .heap) (s .labels) (s .floor) (x .call) (t .heap) (t .labels) (x .called) → t .floor ≡ x .called .floor
       → Chain rows cols (xs ++ x ∷ []) t
 
@@ -117,7 +117,7 @@ abbrev pub removedBy : List Exchange → ℕ
 removedBy xs = total (map (λ x. x .called .removed) xs)
 
 -- What is left at the end of a chain agrees with the trace of its calls, and so do all answers; no call inserted more than its allowance.
-pub record Follows (rows : List (List ℕ)) (cols : ℕ) (xs : List Exchange) (s : State) : Type 0 where
+pub record Follows (rows : List (List ℕ)) (cols : ℕ) (xs : List Exchange) (s : CallState) : Type 0 where
   pub agrees : Agrees rows cols (callsMade xs) (s .heap) (s .labels) (insertedBy xs) (removedBy xs)
   pub floor-is : s .floor ≡ traceOf rows cols (callsMade xs) .model .floor
   pub answers-are : answersMade xs ≡ traceOf rows cols (callsMade xs) .answers

@@ -6,9 +6,8 @@ use Prim.Native.Nat.{ℕ}
 use native.Mathlib.Omega.{arith}
 use borrow.Author.Tests.{eq-eqb, ne-eqb}
 use lib.ListN.{length, set}
-use Rattle.definitions.specs.Text.{FieldAnswer, fieldAt}
-use Rattle.definitions.specs.Entries.{hasPlaces}
-use Rattle.exports.specs.Entry.{fieldEntry}
+use Rattle.definitions.specs.Fields.{FieldAnswer, fieldAt}
+use Rattle.definitions.specs.Entries.{hasPlaces, fieldEntry}
 
 pub field-size : (text : List ℕ) (at : ℕ) (value : List ℕ) → length value ≢ 1 → record { number = 1; value = value } ≡ fieldEntry text at value
 unfolding fieldEntry hasPlaces

@@ -1,0 +1,75 @@
+-- The words of an interval heap: how many there are, which is which, and the intervals that they hold. Whoever reads, writes or counts them rests on
+-- this file.
+--   countWord markWord headWords                       what stands before the intervals
+--   parentWord firstWord lastWord intervalWords        the words of one interval
+--   intervalStart heapWords                            where interval k begins; how many words a heap takes
+--   countOf markOf parentAt firstAt lastAt             what the words say
+--   intervalAt span kept                               the intervals that they hold
+use mathlib.Core.List.{List, [], _∷_}
+use Prim.Native.Nat.{ℕ, zero, suc, _+_, _*_}
+use lib.ListN.{getD}
+use Rattle.definitions.specs.Limits.{intervalSize}
+use Rattle.definitions.specs.Intervals.{Interval, interval}
+
+-- ---- which is which
+
+-- how many intervals there are, and whether a row is activated
+abbrev pub countWord : ℕ
+countWord = 0
+
+abbrev pub markWord : ℕ
+markWord = 1
+
+abbrev pub headWords : ℕ
+headWords = 2
+
+-- the words of an interval are its numbers, in their order
+abbrev pub parentWord : ℕ
+parentWord = 0
+
+abbrev pub firstWord : ℕ
+firstWord = 1
+
+abbrev pub lastWord : ℕ
+lastWord = 2
+
+abbrev pub intervalWords : ℕ
+intervalWords = intervalSize
+
+-- the intervals are packed from the front
+abbrev pub intervalStart : ℕ → ℕ
+intervalStart k = headWords + intervalWords * k
+
+-- the heap of a block of so many columns: no two intervals share a column, so there are at most as many
+abbrev pub heapWords : ℕ → ℕ
+heapWords cols = headWords + intervalWords * cols
+
+-- ---- what they say
+
+unfoldable pub countOf : List ℕ → ℕ
+countOf w = getD w countWord 0
+
+-- 1 once a row is activated, else 0
+unfoldable pub markOf : List ℕ → ℕ
+markOf w = getD w markWord 0
+
+unfoldable pub parentAt : List ℕ → ℕ → ℕ
+parentAt w k = getD w (intervalStart k + parentWord) 0
+
+unfoldable pub firstAt : List ℕ → ℕ → ℕ
+firstAt w k = getD w (intervalStart k + firstWord) 0
+
+unfoldable pub lastAt : List ℕ → ℕ → ℕ
+lastAt w k = getD w (intervalStart k + lastWord) 0
+
+unfoldable pub intervalAt : List ℕ → ℕ → Interval
+intervalAt w k = interval (parentAt w k) (firstAt w k) (lastAt w k)
+
+-- n intervals from place i on
+unfoldable pub span : List ℕ → ℕ → ℕ → List Interval
+span w i zero = []
+span w i (suc n) = intervalAt w i ∷ span w (suc i) n
+
+-- all of them
+unfoldable pub kept : List ℕ → List Interval
+kept w = span w 0 (countOf w)

@@ -1,0 +1,63 @@
+-- Document 01, "The heap of one block": intervals, and the longest runs of columns with one parent.
+--   Interval adjoins joined prepend    an interval, and one put before others
+--   prependColumn runs                 the longest runs
+--   Rising Distinct                    their order; each stands once
+--   isKept countNew                    how many of one list are not in another
+use mathlib.Core.Path.{_≡_}
+use mathlib.Core.Bool.{Bool, false, cond, _&&_, _||_}
+use mathlib.Core.List.{List, [], _∷_}
+use Prim.Native.Nat.{ℕ, zero, suc, _≤_}
+use lib.Dec.{eqb}
+use Rattle.definitions.specs.Best.{Best, nobody, by}
+
+-- its parent, its first and its last column
+pub data Interval : Type 0 where
+  interval : ℕ → ℕ → ℕ → Interval
+
+-- the second goes on where the first ends, with the same parent
+unfoldable pub adjoins : Interval → Interval → Bool
+adjoins (interval p f l) (interval p′ f′ l′) = eqb p p′ && eqb (suc l) f′
+
+-- the two as one
+unfoldable pub joined : Interval → Interval → Interval
+joined (interval p f l) (interval p′ f′ l′) = interval p f l′
+
+-- an interval before others: one with the first of these where they adjoin
+unfoldable pub prepend : Interval → List Interval → List Interval
+prepend v [] = v ∷ []
+prepend v (u ∷ us) = cond (adjoins v u) (joined v u ∷ us) (v ∷ u ∷ us)
+
+-- a column before the intervals of the columns after it
+unfoldable pub prependColumn : ℕ → Best → List Interval → List Interval
+prependColumn c nobody vs = vs
+prependColumn c (by p s) vs = prepend (interval p c c) vs
+
+-- the longest runs of one parent among the n columns from c on, by rising column
+unfoldable pub runs : (ℕ → Best) → ℕ → ℕ → List Interval
+runs w c zero = []
+runs w c (suc n) = prependColumn c (w c) (runs w (suc c) n)
+
+-- each begins after the one before it ends, the first not before column lo
+abbrev pub Rising : ℕ → List Interval → Type 0
+Rising lo [] = Unit {0}
+Rising lo (interval p f l ∷ vs) = (lo ≤ f) × (f ≤ l) × Rising (suc l) vs
+
+-- same parent, first and last column
+unfoldable pub sameInterval : Interval → Interval → Bool
+sameInterval (interval p f l) (interval p′ f′ l′) = eqb p p′ && eqb f f′ && eqb l l′
+
+-- an interval is among others
+unfoldable pub isKept : Interval → List Interval → Bool
+isKept v [] = false
+isKept v (u ∷ us) = sameInterval v u || isKept v us
+
+-- each stands once
+abbrev pub Distinct : List Interval → Type 0
+Distinct [] = Unit {0}
+Distinct (v ∷ vs) = (isKept v vs ≡ false) × Distinct vs
+
+-- How many of the first list are not in the second. Of the intervals after and before a call these are inserted, 01's brought in; of those
+-- before and after it they are removed, 01's dropped.
+unfoldable pub countNew : List Interval → List Interval → ℕ
+countNew [] us = 0
+countNew (v ∷ vs) us = cond (isKept v us) (countNew vs us) (suc (countNew vs us))
