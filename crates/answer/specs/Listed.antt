@@ -20,7 +20,7 @@ use Rattle.definitions.specs.Blocks.{blocks}
 use Rattle.definitions.specs.Labelling.{State, labelOf, labelling, heldLabel, labels}
 use Rattle.definitions.specs.Text.{Read, refused, value, require, Plan, readPlan, judgeLength, readText, sizesOf, verticesOf, lengthsOf}
 use Rattle.definitions.specs.Entries.{AfterRead, AfterLabel, hasPlaces, judgeBuffers, readRefusal, afterRead, reading, judgeLabelling, labelAnswer, labelNetwork, listingLine, refusalLine, stateListing, planListing, listing}
-use Rattle.basics.specs.Tests.{Truth, holds, fails, truth}
+use Rattle.logic.specs.Tests.{Truth, holds, fails, truth}
 use Rattle.basics.specs.ListLaws.{every-imp}
 use Rattle.basics.specs.Causes.{bounds-in}
 use Rattle.labelling_laws.specs.LoopLaws.{labels-read}

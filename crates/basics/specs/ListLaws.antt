@@ -17,7 +17,7 @@ use borrow.Author.Tests.{eq-eqb, ne-eqb, not-true}
 use lib.Dec.{eqb}
 use lib.ListN.{getD, length, set, length-append, length-replicate}
 use Rattle.definitions.specs.Lists.{all, count, every, Every, mem, different, total, padded}
-use Rattle.basics.specs.Tests.{clash, and-left, and-right, and-both, or-left, or-right, Truth, holds, fails, truth, Equal, equal, differ, equality}
+use Rattle.logic.specs.Tests.{clash, and-left, and-right, and-both, or-left, or-right, Truth, holds, fails, truth, Equal, equal, differ, equality}
 
 -- ---- a computed test
 

@@ -17,7 +17,7 @@ use Prim.Native.Nat.{ℕ, suc, pred, _+_, _*_, _≤_, _<_}
 use native.Mathlib.Omega.{arith}
 use lib.ListN.{length}
 use Rattle.definitions.specs.Limits.{sum}
-use Rattle.definitions.specs.Lists.{mem, Every}
+use Rattle.definitions.specs.Lists.{mem}
 use Rattle.definitions.specs.Network.{Rectangle}
 use Rattle.definitions.specs.Blocks.{Monge, isMonge}
 use Rattle.definitions.specs.Model.{by, LeastLeft, parent, available, extract, Model, fresh, Interval, interval, intervals, isKept, Distinct, Call, coded, judge, step, Trace, extend, trace, AllExtractLeast, allowances, Rising}
@@ -28,9 +28,10 @@ use Rattle.heap_laws.specs.Parents as parents
 use Rattle.heap_laws.specs.Won.{won, won-between, Range, SomeRange, range}
 use Rattle.heap_laws.specs.Sound.{trace-sound, step-floor, won-available}
 use Rattle.heap_laws.specs.ModelCalls.{Activates, trace-snoc, trace-activate}
-use Rattle.heap_laws.specs.Runs.{runs-rising, IsRun, Longest, runs-longest, runs-length}
+use Rattle.definitions.specs.Laws.RunProofs.{runs-length}
+use Rattle.definitions.specs.Laws.RunLaws.{LongestRun, intervals-are-longest, intervals-rise}
 use Rattle.heap_laws.specs.Counting.{runs-distinct}
-use Rattle.heap_laws.specs.Edits.{before, from, run-kept}
+use Rattle.heap_laws.specs.Edits.{before, from}
 use Rattle.heap_laws.specs.Activate as activation
 use Rattle.heap_laws.specs.Extract as extraction
 use Rattle.heap_laws.specs.TraceCounts as traces
@@ -145,17 +146,15 @@ module _ (e : Rectangle) (rows cols : ℕ) (ks : List Call) where
   -- ---- the intervals
 
   -- They are exactly the longest runs of neighbouring columns with one parent, in rising order, each once, at most one for each column.
-  pub intervals-are-longest-runs : Every (Longest (available e model) 0 cols) kept
-  unfolding intervals
-  intervals-are-longest-runs = runs-longest (available e model) 0 cols
+  pub intervals-are-longest-runs : (p f l : ℕ) → isKept (interval p f l) kept ≡ true → LongestRun (available e model) cols p f l
+  intervals-are-longest-runs p f l = intervals-are-longest e cols model p f l .0
 
-  pub longest-runs-are-intervals : (p f l : ℕ) → IsRun (available e model) 0 cols p f l → isKept (interval p f l) kept ≡ true
-  unfolding intervals
-  longest-runs-are-intervals p f l run = run-kept (available e model) cols p f l run
+  pub longest-runs-are-intervals : (p f l : ℕ) → LongestRun (available e model) cols p f l → isKept (interval p f l) kept ≡ true
+  longest-runs-are-intervals p f l = intervals-are-longest e cols model p f l .1
 
   pub intervals-once : Rising 0 kept × Distinct kept × (length kept ≤ cols)
   unfolding intervals
-  intervals-once = (runs-rising (available e model) 0 cols, runs-distinct (available e model) 0 cols, runs-length (available e model) 0 cols)
+  intervals-once = (intervals-rise e cols model, runs-distinct (available e model) 0 cols, runs-length (available e model) 0 cols)
 
   -- ---- the counts
 

@@ -14,7 +14,7 @@ use Rattle.definitions.specs.Network.{Rectangle}
 use Rattle.definitions.specs.Model.{Best, nobody, by, available, leastFrom, Model, fresh, activate, extract, intervals, countNew, judge, Call, Answer, coded, extractionOf, step, allowance, Trace, extend, trace}
 use Rattle.heap_laws.specs.Inequality.{MongeAll}
 use Rattle.heap_laws.specs.ModelCalls.{Cases, activates, extracts, refuses, cases, step-activate, step-extract, step-refused, trace-induction}
-use Rattle.heap_laws.specs.Found.{Found, found-is}
+use Rattle.definitions.specs.Laws.LeastLaws.{Found, found-is}
 use Rattle.heap_laws.specs.Sound.{Sound, fresh-sound, extend-sound}
 use Rattle.heap_laws.specs.Counting.{countNew-same, runs-distinct, balance}
 use Rattle.heap_laws.specs.Activate.{none-kept, activate-new}

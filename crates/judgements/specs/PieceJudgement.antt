@@ -16,7 +16,7 @@ use Rattle.definitions.specs.Network.{Piece, entry, sizeOf}
 use Rattle.definitions.specs.Blocks.{Window, windowsOf, rowsOf, columnsOf, isMonge, blockOf, blocksOf, passes}
 use Rattle.definitions.specs.Judgement.{judgeSize, judgeBlocks, judgePiece, pieceAt}
 use Rattle.definitions.specs.Entries.{hasPlaces}
-use Rattle.basics.specs.Tests.{Equal, equal, differ, equality}
+use Rattle.logic.specs.Tests.{Equal, equal, differ, equality}
 use Rattle.splits.specs.Windows.{Inside, windows-inside}
 use Rattle.monge.specs.Matrix.{at, mongeIn, reversed, rowsIn}
 use Rattle.basics.specs.Sequences.{length-upFrom}

@@ -14,7 +14,7 @@ use Rattle.definitions.specs.Lists.{every, different, within, Every}
 use Rattle.definitions.specs.Network.{Piece, entry, sizeOf}
 use Rattle.definitions.specs.Blocks.{blocksOf, passes}
 use Rattle.definitions.specs.Judgement.{judgeBounds, judgeSize, judgeVertices, judgeRow, judgeRows, judgeBlocks, judgeSource, judgePiece}
-use Rattle.basics.specs.Tests.{and-left, and-right}
+use Rattle.logic.specs.Tests.{and-left, and-right}
 use Rattle.basics.specs.ListLaws.{every-is, Different, different-is}
 use Rattle.basics.specs.Causes.{no-cause, test-holds, within-is}
 use Rattle.labelling_laws.specs.VertexPlaces.{at-place}

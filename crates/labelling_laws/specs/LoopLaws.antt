@@ -16,9 +16,9 @@ use Rattle.definitions.specs.Lists.{upFrom, Every}
 use Rattle.definitions.specs.Model.{nobody, by, available, intervals}
 use Rattle.definitions.specs.Blocks.{Block}
 use Rattle.definitions.specs.Labelling.{BlockState, activation, extraction, freshBlock, apply, leastOf, placeOf, activateAt, activateVertex, settledAt, State, labelOf, settleAs, settle, noBlockState, chosen, placeIn, extractFrom, advance, start, heldLabel, labels}
-use Rattle.basics.specs.Tests.{Equal, equal, differ, equality}
+use Rattle.logic.specs.Tests.{Equal, equal, differ, equality}
 use Rattle.basics.specs.ListLaws.{every-all}
-use Rattle.heap_laws.specs.Found.{Found, Lowest, found-is}
+use Rattle.definitions.specs.Laws.LeastLaws.{Found, Lowest, found-is}
 use Rattle.heap_laws.specs.Extract.{found-none}
 use Rattle.basics.specs.Sequences.{length-upFrom, getD-upFrom, map-at}
 use Rattle.labelling_laws.specs.Labels.{label-new, label-other, Status, settled, unsettled, status}

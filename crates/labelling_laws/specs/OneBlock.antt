@@ -21,12 +21,12 @@ use Rattle.definitions.specs.Network.{Rectangle}
 use Rattle.definitions.specs.Blocks.{Block}
 use Rattle.definitions.specs.Model.{Best, nobody, by, lesser, least, Activation, Model, through, parent, available, leastFrom, isActivated, judge, step, activate, extract, Trace, extend}
 use Rattle.definitions.specs.Labelling.{BlockState, activation, extraction, freshBlock, apply, leastOf, placeOf, activateAt, activateVertex, Settled, settledAt, labelOf}
-use Rattle.basics.specs.Tests.{clash, Truth, holds, fails, truth, Equal, equal, differ, equality}
+use Rattle.logic.specs.Tests.{clash, Truth, holds, fails, truth, Equal, equal, differ, equality}
 use Rattle.basics.specs.ListLaws.{every-snoc, Different, mem-snoc}
 use Rattle.heap_laws.specs.Inequality.{MongeAll}
 use Rattle.heap_laws.specs.Lesser.{From, from-lesser}
 use Rattle.heap_laws.specs.Parents.{parent-snoc, available-parent}
-use Rattle.heap_laws.specs.Found.{Lowest, found-is}
+use Rattle.definitions.specs.Laws.LeastLaws.{Lowest, found-is}
 use Rattle.heap_laws.specs.ModelCalls.{step-activate, step-extract}
 use Rattle.heap_laws.specs.Sound.{Sound, fresh-sound, step-sound, activated-few, extracted-few}
 use Rattle.heap_laws.specs.Extract.{extract-here, extract-other}

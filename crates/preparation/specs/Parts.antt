@@ -22,7 +22,7 @@ use Rattle.definitions.specs.Lists.{all, every, total, upFrom, padded, Every}
 use Rattle.definitions.specs.Network.{noPiece}
 use Rattle.definitions.specs.Blocks.{splits, splitsOf, windows, windowsOf, noBlock, blockOf, blocks}
 use Rattle.definitions.specs.Judgement.{pieceAt, piecesOf}
-use Rattle.basics.specs.Tests.{split-at}
+use Rattle.logic.specs.Tests.{split-at}
 use Rattle.basics.specs.ListLaws.{all-at, every-is, every-at, length-padded}
 use Rattle.splits.specs.Windows.{Inside, windows-inside}
 use Rattle.monge.specs.Copies.{block-entry}

@@ -17,7 +17,7 @@ use lib.Dec.{leb}
 use lib.ListN.{getD, length, take, set}
 use lib.Seq.{take-suc-set}
 use native.Mathlib.Numerals.{add-one}
-use Rattle.basics.specs.Tests.{Truth, holds, fails, truth}
+use Rattle.logic.specs.Tests.{Truth, holds, fails, truth}
 use Rattle.definitions.specs.Network.{Piece}
 use Rattle.definitions.specs.Judgement.{judgeSize, judgeVertices, judgeRow, judgeBlocks}
 use Rattle.definitions.specs.Text.{require, readRows, readPiece, pieceBytes, readPieces, lineEnd, fieldBytes, aField, noField, fieldAt, lengthAt, FieldReading, Read, refused, value, _>>=_, readField, readFields, judgeLineEnd, readLine, lineBytes}

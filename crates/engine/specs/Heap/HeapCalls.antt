@@ -25,7 +25,7 @@ use Rattle.basics.specs.ListLaws.{every-snoc}
 use Rattle.heap_laws.specs.ModelCalls.{Activates, step-activate, step-extract}
 use Rattle.heap_laws.specs.Won.{won, won-between, Range}
 use Rattle.heap_laws.specs.Sound.{reached-step}
-use Rattle.heap_laws.specs.Runs.{tag, runs-length}
+use Rattle.definitions.specs.Laws.RunProofs.{tag, runs-length}
 use Rattle.heap_laws.specs.Counting.{countNew-same, runs-distinct, balance}
 use Rattle.heap_laws.specs.Edits.{before, from, cutAt}
 use Rattle.heap_laws.specs.ColumnParents.{lookup-available, won-outside}

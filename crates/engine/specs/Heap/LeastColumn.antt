@@ -12,9 +12,9 @@ use native.Mathlib.Omega.{arith}
 use lib.ListN.{getD}
 use Rattle.definitions.specs.Limits.{below}
 use Rattle.definitions.specs.Model.{Best, nobody, by, lesser, placed, leastFrom, Model, available}
-use Rattle.basics.specs.Tests.{split-at, Order, less, more, order}
+use Rattle.logic.specs.Tests.{split-at, Order, less, more, order}
 use Rattle.heap_laws.specs.Lesser.{lesser-nobody, lesser-assoc}
-use Rattle.heap_laws.specs.Found.{leastFrom-same}
+use Rattle.definitions.specs.Laws.LeastLaws.{leastFrom-same}
 use Rattle.engine.specs.declared.heap.Lowest.{Lowest}
 use Rattle.engine.specs.declared.heap.Lowest.the-variants.{At, Nothing}
 use Rattle.engine.specs.Promises.Words.{countOf, parentAt, firstAt, lastAt}

@@ -15,7 +15,7 @@ use lib.ListN.{length, getD, set}
 use lib.Seq.{getD-set-other, sets, length-sets}
 use Rattle.definitions.specs.Model.{Interval, interval}
 use Rattle.definitions.specs.Entries.{intervalNumbers}
-use Rattle.basics.specs.Tests.{split-at, Equal, equal, differ, equality}
+use Rattle.logic.specs.Tests.{split-at, Equal, equal, differ, equality}
 use Rattle.preparation.specs.HeapWords.{countWord, markWord, headWords, parentWord, firstWord, lastWord, intervalWords, intervalStart, heapWords}
 use Rattle.engine.specs.Strides.{sets-before, stored-here, stored-other}
 use Rattle.engine.specs.declared.heap.Interval as declared

@@ -6,7 +6,7 @@ use Rattle.definitions.specs.declared.SessionAnswer.{SessionAnswer}
 use Rattle.definitions.specs.Lists.{padded}
 use Rattle.definitions.specs.Model.{Call, trace}
 use Rattle.definitions.specs.Entries.{AfterSession, rectangleOf, judgeSession, callsOf, answersOf, answersIn, session}
-use Rattle.basics.specs.Tests.{Equal, equal, differ, equality}
+use Rattle.logic.specs.Tests.{Equal, equal, differ, equality}
 use Rattle.heap_laws.specs.AllCalls.{trace-each, trace-allowed, trace-extractions}
 use Rattle.heap_laws.specs.HeapTheorems.{intervals-once, inserted-removed-kept}
 use Rattle.engine.specs.Promises.Entries.{PlainSession}

@@ -19,7 +19,7 @@ use Rattle.definitions.specs.Limits.{maxLabel, unreached}
 use Rattle.definitions.specs.Lists.{Every}
 use Rattle.definitions.specs.Model.{Best, nobody, by, Activation, Model, activate, extract, available, leastFrom, extractionOf, answerOf, isActivated, intervals, countNew, Call, Answer, judge}
 use Rattle.definitions.specs.Labelling.{activation}
-use Rattle.basics.specs.Tests.{clash, or-left, or-right, Truth, holds, fails, truth}
+use Rattle.logic.specs.Tests.{clash, or-left, or-right, Truth, holds, fails, truth}
 use Rattle.heap_laws.specs.ModelCalls.{Activates, Cases, activates, extracts, refuses, cases, step-activate, step-extract, step-refused}
 use Rattle.heap_laws.specs.Parents.{isActivated-snoc}
 use Rattle.heap_laws.specs.Counting.{countNew-same}

@@ -1,0 +1,6 @@
+-- What definitions that are made for computing say in plain terms: the laws, each with its proof in the same file or in the one named beside it.
+--   LeastLaws   the place that `leastFrom` finds
+--   RunLaws     the intervals are exactly the longest runs; RunProofs
+pub mod LeastLaws
+pub mod RunProofs
+pub mod RunLaws
