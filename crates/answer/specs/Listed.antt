@@ -24,7 +24,7 @@ use Rattle.logic.specs.Tests.{Truth, holds, fails, truth}
 use Rattle.basics.specs.ListLaws.{every-imp}
 use Rattle.basics.specs.Causes.{bounds-in}
 use Rattle.labelling_laws.specs.LoopLaws.{labels-read}
-use Rattle.text.specs.ReadSteps.{bind-value, require-value}
+use Rattle.definitions.specs.Laws.ReadLaws.{bind-value, require-value}
 use Rattle.text.specs.PieceReading.{Shaped, Room, sizes-long, vertices-full, lengths-full}
 use Rattle.text.specs.Back.{pieces-back}
 use Rattle.text.specs.Plans.{planAnswer, After as AfterReading}

@@ -1,38 +1,24 @@
 -- An accepted text's network is accepted where it is lent: the reader has judged what the labelling judges again.
---   line-length rows-accepted piece-accepted pieces-accepted   what is read has been judged, and has its shape
+--   rows-accepted piece-accepted pieces-accepted   what is read has been judged, and has its shape
 --   plan-accepted                                              the whole plan
 --   network-accepted                                           the buffers that the reader fills
 use mathlib.Core.Path.{_≡_, refl, sym, ap, _∙_, subst}
 use mathlib.Core.List.{List, [], _∷_, _++_, map, append-assoc}
-use Prim.Native.Nat.{ℕ, zero, suc, _+_, _*_}
+use Prim.Native.Nat.{ℕ, zero, suc, _+_}
 use native.Mathlib.Omega.{arith}
 use lib.ListN.{getD, length, length-append}
 use Rattle.basics.specs.ListLaws.{every-append}
 use Rattle.definitions.specs.Lists.{total, firstCause, Every}
 use Rattle.definitions.specs.Network.{Piece, sizeOf}
 use Rattle.definitions.specs.Judgement.{judgeBounds, judgeSize, judgeVertices, judgeRow, judgeRows, judgeBlocks, judgeSource, judgePiece, judgeFrom, judgeNetwork}
-use Rattle.definitions.specs.Text.{fieldBytes, fieldAt, lengthAt, FieldReading, value, require, readField, readFields, judgeLineEnd, readLine, lineBytes, readRows, readPiece, pieceBytes, readPieces, Plan, judgeEnd, readBody, readPlan, sizesOf, verticesOf, lengthsOf}
+use Rattle.definitions.specs.Text.{fieldBytes, fieldAt, lengthAt, value, require, readField, readLine, lineBytes, readRows, readPiece, pieceBytes, readPieces, Plan, judgeEnd, readBody, readPlan, sizesOf, verticesOf, lengthsOf}
 use Rattle.basics.specs.Causes.{size-in}
-use Rattle.text.specs.ReadSteps.{pieceOf, value-same, bind-value, require-value}
+use Rattle.definitions.specs.Laws.ReadLaws.{value-same, bind-value, require-value, line-length}
+use Rattle.text.specs.ReadSteps.{pieceOf}
 use Rattle.text.specs.PieceReading.{Shaped}
 use Rattle.text.specs.Back.{size-back, piece-back}
 
 -- ---- what was read, part by part
-
-fields-length : (field : FieldReading) (text : List ℕ) (at k : ℕ) (xs : List ℕ) → readFields field text at k ≡ value xs → length xs ≡ k
-unfolding readFields
-fields-length field text at zero xs e = ap length (sym (value-same [] xs e))
-fields-length field text at (suc k) xs e =
-    let a = bind-value (readField field text at) _ xs e in
-    let b = bind-value (readFields field text (at + fieldBytes) k) _ xs (a .2) in
-    ap length (sym (value-same (a .0 ∷ b .0) xs (b .2))) ∙ ap suc (fields-length field text (at + fieldBytes) k (b .0) (b .1))
-
-line-length : (field : FieldReading) (text : List ℕ) (at k : ℕ) (xs : List ℕ) → readLine field text at k ≡ value xs → length xs ≡ k
-unfolding readLine
-line-length field text at k xs e =
-    let a = bind-value (readFields field text at k) _ xs e in
-    let b = bind-value (require (judgeLineEnd text (at + fieldBytes * k))) _ xs (a .2) in
-    ap length (sym (value-same (a .0) xs (b .2))) ∙ fields-length field text at k (a .0) (a .1)
 
 -- rows that were judged one by one
 record Rows (m i k : ℕ) (rows : List (List ℕ)) : Type 0 where

@@ -28,7 +28,8 @@ use Rattle.basics.specs.Causes.{size-in}
 use Rattle.judgements.specs.PieceJudgement.{table-blocks}
 use Rattle.monge.specs.Matrix.{rowsIn}
 use Rattle.text.specs.Outcomes.{Came, RowsLeft}
-use Rattle.text.specs.ReadSteps.{after, after-after, after-none, value-same, bind-value, require-value, field-inside, field-in, judged, judged-stop, pieceOf, readSized, piece-stop, piece-go, vertices-stop, table-stop, table-go, pieces-go, pieces-stop}
+use Rattle.definitions.specs.Laws.ReadLaws.{value-same, bind-value, require-value}
+use Rattle.text.specs.ReadSteps.{after, after-after, after-none, field-inside, field-in, judged, judged-stop, pieceOf, readSized, piece-stop, piece-go, vertices-stop, table-stop, table-go, pieces-go, pieces-stop}
 use Rattle.text.specs.Padding.{padded-inner}
 use Rattle.text.specs.Returns.{came-out, came-go, came-judged}
 use Rattle.text.specs.RowReading.{rows-back, line-end-in}
