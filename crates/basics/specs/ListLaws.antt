@@ -1,5 +1,5 @@
 -- Laws of lists.
---   all-at all-is every-is        a computed test gives a fact of each number, of each member
+--   all-at all-is                 a computed test gives a fact of each number
 --   all-same all-next all-fails   tests that agree; one number more; one number that fails
 --   Every Any                     a property of all members, of some member
 --   total-..                      sums
@@ -16,7 +16,7 @@ use native.Mathlib.Omega.{arith}
 use borrow.Author.Tests.{eq-eqb, ne-eqb, not-true}
 use lib.Dec.{eqb}
 use lib.ListN.{getD, length, set, length-append, length-replicate}
-use Rattle.definitions.specs.Lists.{all, count, every, Every, mem, different, total, padded}
+use Rattle.definitions.specs.Lists.{all, count, Every, mem, different, total, padded}
 use Rattle.logic.specs.Tests.{clash, and-left, and-right, and-both, or-left, or-right, Truth, holds, fails, truth, Equal, equal, differ, equality}
 
 -- ---- a computed test
@@ -53,11 +53,6 @@ all-fails p n i l h = go (truth (all p n))
     go (fails t) = t
 
 -- ---- a property of all members
-
-pub every-is : {A : Type 0} (p : A → Bool) (P : A → Type 0) → ((x : A) → p x ≡ true → P x) → (xs : List A) → every p xs ≡ true → Every P xs
-unfolding every
-every-is p P f [] h = tt
-every-is p P f (x ∷ xs) h = (f x (and-left (p x) (every p xs) h), every-is p P f xs (and-right (p x) (every p xs) h))
 
 module _ {A : Type 0} where
   pub every-at : (P : A → Type 0) (xs : List A) → Every P xs → (i : ℕ) (d : A) → i < length xs → P (getD xs i d)

@@ -5,6 +5,9 @@
 pub mod LeastLaws
 pub mod RunProofs
 pub mod RunLaws
+pub mod Causes
 pub mod ReadLaws
 pub mod FieldProofs
+pub mod Written
+pub mod LineProofs
 pub mod LineLaws

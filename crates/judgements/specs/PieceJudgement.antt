@@ -23,7 +23,7 @@ use Rattle.basics.specs.Sequences.{length-upFrom}
 use Rattle.monge.specs.Copies.{block-passes}
 use Rattle.basics.specs.PiecePlaces.{block-rows, block-cols}
 use Rattle.judgements.specs.LentPieces.{pieceIn, tableIn, judgeTable}
-use Rattle.basics.specs.Causes.{passed, last, size-in}
+use Rattle.definitions.specs.Laws.Causes.{passed, last, size-in}
 
 -- ---- blocks
 

@@ -12,7 +12,7 @@ use Rattle.definitions.specs.Judgement.{judgeBounds, judgeSource, judgePiece, p
 use Rattle.definitions.specs.Entries.{hasPlaces, judgeBuffers, judgeLabelling}
 use Rattle.basics.specs.Sequences.{length-upFrom}
 use Rattle.basics.specs.PiecePlaces.{piece-size}
-use Rattle.basics.specs.Causes.{no-cause, bounds-in, buffers-are}
+use Rattle.definitions.specs.Laws.Causes.{no-cause, bounds-in, buffers-are}
 use Rattle.labelling_laws.specs.Acceptance.{Accepted, size-passes}
 
 module _ (n : ℕ) (sizes vertices lengths : List ℕ) where

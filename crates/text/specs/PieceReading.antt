@@ -24,7 +24,7 @@ use Rattle.definitions.specs.Network.{Piece, sizeOf}
 use Rattle.definitions.specs.Text.{fieldBytes, fieldAt, refused, value, require, readField, readLine, lineBytes, readRows, readPiece, pieceBytes, readPieces, sizesOf, verticesOf, tableOf, lengthsOf}
 use Rattle.definitions.specs.Judgement.{judgeSize, judgeVertices, judgeBlocks}
 use Rattle.judgements.specs.LentPieces.{judgeTable}
-use Rattle.basics.specs.Causes.{size-in}
+use Rattle.definitions.specs.Laws.Causes.{size-in}
 use Rattle.judgements.specs.PieceJudgement.{table-blocks}
 use Rattle.monge.specs.Matrix.{rowsIn}
 use Rattle.text.specs.Outcomes.{Came, RowsLeft}

@@ -19,7 +19,7 @@ use Rattle.definitions.specs.Labelling.{labelling, labels}
 use Rattle.definitions.specs.Judgement.{judgeBounds, judgeSource, judgePiece, pieceAt, piecesOf, judgeFrom, judgeNetwork}
 use Rattle.definitions.specs.Entries.{hasPlaces, judgeBuffers, AfterLabel, judgeLabelling, labelAnswer, labelRefusal, labelNetwork}
 use Rattle.logic.specs.Tests.{split-at, Equal, equal, differ, equality}
-use Rattle.basics.specs.Causes.{passed, no-cause, test-holds, bounds-in, buffers-are}
+use Rattle.definitions.specs.Laws.Causes.{passed, no-cause, test-holds, bounds-in, buffers-are}
 use Rattle.preparation.specs.Prepared.{matrixOf, tablesOf, maxWords}
 use Rattle.preparation.specs.Numbering.{Fits}
 use Rattle.labelling_laws.specs.Acceptance.{Accepted, size-passes, suits}
