@@ -21,7 +21,7 @@ use Rattle.definitions.specs.Labelling.{State, labelOf, labelling, heldLabel, l
 use Rattle.definitions.specs.Text.{Read, refused, value, require, Plan, readPlan, judgeLength, readText, sizesOf, verticesOf, lengthsOf}
 use Rattle.definitions.specs.Entries.{AfterRead, AfterLabel, hasPlaces, judgeBuffers, readRefusal, afterRead, reading, judgeLabelling, labelAnswer, labelNetwork, listingLine, refusalLine, stateListing, planListing, listing}
 use Rattle.logic.specs.Tests.{Truth, holds, fails, truth}
-use Rattle.basics.specs.ListLaws.{every-imp}
+use Rattle.definitions.specs.Laws.Members.{every-imp}
 use Rattle.definitions.specs.Laws.Causes.{bounds-in}
 use Rattle.labelling_laws.specs.LoopLaws.{labels-read}
 use Rattle.definitions.specs.Laws.ReadLaws.{bind-value, require-value}

@@ -73,10 +73,6 @@ module _ {A : Type 0} where
   every-append P [] ys h k = k
   every-append P (x ∷ xs) ys h k = (h .0, every-append P xs ys (h .1) k)
 
-  pub every-imp : (P Q : A → Type 0) (xs : List A) → ((x : A) → P x → Q x) → Every P xs → Every Q xs
-  every-imp P Q [] f h = tt
-  every-imp P Q (x ∷ xs) f h = (f x (h .0), every-imp P Q xs f (h .1))
-
   -- place by place
   pub every-all : (P : A → Type 0) (xs : List A) (d : A) → ((i : ℕ) → i < length xs → P (getD xs i d)) → Every P xs
   every-all P [] d f = tt

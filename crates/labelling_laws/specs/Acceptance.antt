@@ -14,7 +14,8 @@ use Rattle.definitions.specs.Blocks.{blocksOf, passes}
 use Rattle.definitions.specs.Judgement.{judgeBounds, judgeSize, judgeVertices, judgeRows, judgeBlocks, judgeSource, judgePiece}
 use Rattle.logic.specs.Tests.{and-right}
 use Rattle.basics.specs.ListLaws.{Different, different-is}
-use Rattle.definitions.specs.Laws.Causes.{no-cause, test-holds, within-is, every-is, vertices-in, Short, rows-short}
+use Rattle.definitions.specs.Laws.Causes.{no-cause, test-holds, within-is, vertices-in, Short, rows-short}
+use Rattle.definitions.specs.Laws.Members.{every-is}
 use Rattle.labelling_laws.specs.VertexPlaces.{at-place}
 
 -- a network of n vertices with these pieces is accepted, and a source in it

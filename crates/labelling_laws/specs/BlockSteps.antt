@@ -21,7 +21,8 @@ use Rattle.definitions.specs.Network.{Rectangle, Walk, stay, then}
 use Rattle.definitions.specs.Blocks.{Block, noBlock}
 use Rattle.definitions.specs.Model.{Best, nobody, by, least, Model, parent, available, leastFrom}
 use Rattle.definitions.specs.Labelling.{BlockState, extraction, freshBlock, apply, leastOf, activateVertex, Settled, settledAt, State, labelOf, settleAs, settle, noBlockState, chosen, placeIn, extractFrom, advance, steps, start}
-use Rattle.basics.specs.ListLaws.{every-at, every-set, every-snoc, every-imp, every-map, every-all, map-same, map-back, Different, different-snoc, at-most}
+use Rattle.basics.specs.ListLaws.{every-at, every-set, every-snoc, every-map, every-all, map-same, map-back, Different, different-snoc, at-most}
+use Rattle.definitions.specs.Laws.Members.{every-imp}
 use Rattle.heap_laws.specs.Lesser.{From, from-each}
 use Rattle.heap_laws.specs.Parents.{available-parent, parent-row, parent-activated, parent-sum, rowLabel}
 use Rattle.definitions.specs.Laws.LeastLaws.{Found, Lowest, found-is}

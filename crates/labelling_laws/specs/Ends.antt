@@ -17,7 +17,8 @@ use Rattle.definitions.specs.Lists.{total, Every}
 use Rattle.definitions.specs.Model.{Best, nobody, by}
 use Rattle.definitions.specs.Blocks.{Block}
 use Rattle.definitions.specs.Labelling.{BlockState, extraction, freshBlock, apply, leastOf, activateVertex, settledAt, State, labelOf, settleAs, settle, noBlockState, chosen, placeIn, extractFrom, advance, steps, start, columns, labelling, reached, extractions, insertions}
-use Rattle.basics.specs.ListLaws.{every-imp, every-map, map-same, total-set, total-le, Different}
+use Rattle.basics.specs.ListLaws.{every-map, map-same, total-set, total-le, Different}
+use Rattle.definitions.specs.Laws.Members.{every-imp}
 use Rattle.definitions.specs.Laws.LeastLaws.{Lowest, found-is}
 use Rattle.labelling_laws.specs.Labels.{label-new, labelled}
 use Rattle.labelling_laws.specs.OneBlock.{Fit, fresh-fine, Good, Welcome, welcome, activate-extracted, extract-length, extracted-bound, inserted-bound}

@@ -23,7 +23,7 @@ use Rattle.definitions.specs.Network.{noPiece}
 use Rattle.definitions.specs.Blocks.{splits, splitsOf, windows, windowsOf, noBlock, blockOf, blocks}
 use Rattle.definitions.specs.Judgement.{pieceAt, piecesOf}
 use Rattle.logic.specs.Tests.{split-at}
-use Rattle.definitions.specs.Laws.Causes.{every-is}
+use Rattle.definitions.specs.Laws.Members.{every-is}
 use Rattle.basics.specs.ListLaws.{all-at, every-at, length-padded}
 use Rattle.splits.specs.Windows.{Inside, windows-inside}
 use Rattle.monge.specs.Copies.{block-entry}

@@ -15,7 +15,7 @@ use Rattle.definitions.specs.Limits.{maxSize}
 use Rattle.definitions.specs.Lists.{all, every, within}
 use Rattle.definitions.specs.Blocks.{Split, splits, splitsOf, splitsUpTo, allSplits}
 use Rattle.logic.specs.Tests.{and-left, and-right}
-use Rattle.definitions.specs.Laws.Causes.{every-is}
+use Rattle.definitions.specs.Laws.Members.{every-is}
 use Rattle.basics.specs.ListLaws.{all-at, every-at}
 use Rattle.splits.specs.declared.Split as code
 use Rattle.splits.specs.Table.{flattened, noSplit, splitOf, splitIn, firstSplit}

@@ -15,7 +15,7 @@ use Rattle.definitions.specs.Limits.{maxSize}
 use Rattle.definitions.specs.Lists.{all, every, total, Every}
 use Rattle.definitions.specs.Blocks.{splits, splitsOf, Window, windows, windowsOf, logarithmFrom, logarithm}
 use Rattle.logic.specs.Tests.{and-left, and-right, Truth, holds, fails, truth}
-use Rattle.definitions.specs.Laws.Causes.{every-is}
+use Rattle.definitions.specs.Laws.Members.{every-is}
 use Rattle.basics.specs.ListLaws.{all-at, Any}
 
 -- the block has a row at place i and a column at place j

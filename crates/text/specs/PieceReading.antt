@@ -17,7 +17,8 @@ use lib.ListN.{length, take, drop, set, replicate, length-append, length-map}
 use lib.Seq.{drop-at}
 use borrow.Author.Tests.{le-leb}
 use Rattle.basics.specs.Buffers.{flatMap-snoc, put, put-padded, set-padded}
-use Rattle.basics.specs.ListLaws.{every-imp, every-snoc, length-padded, total-append}
+use Rattle.basics.specs.ListLaws.{every-snoc, length-padded, total-append}
+use Rattle.definitions.specs.Laws.Members.{every-imp}
 use Rattle.definitions.specs.Limits.{maxSize, sizePlaces, vertexPlaces, lengthPlaces, rowPlaces, tablePlaces}
 use Rattle.definitions.specs.Lists.{padded, total, within, Every}
 use Rattle.definitions.specs.Network.{Piece, sizeOf}

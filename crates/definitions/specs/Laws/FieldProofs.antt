@@ -27,7 +27,7 @@ pub digits-more : (fuel x : ℕ) → 10 ≤ x → digitsOf (suc fuel) x ≡ digi
 unfolding digitsOf
 digits-more fuel x h = rw (le-ltb x 10 h, digitsOf)
 
-digit-in : (b : ℕ) → isDigit b ≡ true → (48 ≤ b) × (b ≤ 57)
+pub digit-in : (b : ℕ) → isDigit b ≡ true → (48 ≤ b) × (b ≤ 57)
 unfolding isDigit
 digit-in b t = (leb-true 48 b (and-left (leb 48 b) (leb b 57) t), leb-true b 57 (and-right (leb 48 b) (leb b 57) t))
 

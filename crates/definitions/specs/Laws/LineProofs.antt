@@ -56,10 +56,10 @@ field-at text at x e = go (truth (leb (at + fieldBytes) (length text)))
         absurd (omega arith)
 
 -- both readings of a field
-abbrev Reads : FieldReading → Type 0
+abbrev pub Reads : FieldReading → Type 0
 Reads field = (text : List ℕ) (at : ℕ) → field text at ≡ fieldAt text at
 
-length-reads : Reads lengthAt
+pub length-reads : Reads lengthAt
 unfolding lengthAt
 length-reads text at = refl
 
