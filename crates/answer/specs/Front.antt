@@ -13,7 +13,7 @@ use lib.Seq.{length-take-le, take-all}
 use Rattle.definitions.specs.Limits.{maxText}
 use Rattle.definitions.specs.Text.{judgeLength, readText}
 use Rattle.definitions.specs.Entries.{refusalLine, planListing, listing, writeListing}
-use Rattle.basics.specs.Tests.{split-at}
+use Rattle.logic.specs.Tests.{split-at}
 
 -- one byte more than a text may have shows that it is too long
 abbrev pub inputPlaces : ℕ

@@ -19,17 +19,19 @@ use Rattle.definitions.specs.Lists.{upFrom, firstCause, Every}
 use Rattle.definitions.specs.Blocks.{blocks}
 use Rattle.definitions.specs.Labelling.{State, labelOf, labelling, heldLabel, labels}
 use Rattle.definitions.specs.Reading.{Read, refused, value, require, Plan, readPlan}
+use Rattle.definitions.specs.Laws.LineProofs.{text-read}
 use Rattle.definitions.specs.Text.{judgeLength, readText, sizesOf, verticesOf, lengthsOf}
 use Rattle.definitions.specs.Entries.{AfterRead, AfterLabel, hasPlaces, judgeBuffers, readRefusal, afterRead, reading, judgeLabelling, labelAnswer, labelNetwork, listingLine, refusalLine, stateListing, planListing, listing, listingPlaces, AfterListing, writeListing}
-use Rattle.basics.specs.Tests.{Truth, holds, fails, truth}
-use Rattle.basics.specs.ListLaws.{every-imp}
-use Rattle.basics.specs.Causes.{bounds-in}
+use Rattle.definitions.specs.Laws.Members.{every-imp}
+use Rattle.definitions.specs.Laws.Causes.{bounds-in}
+use Rattle.definitions.specs.Laws.ReadLaws.{bind-value, require-value}
+use Rattle.definitions.specs.Written.{SoundPiece, SoundPlan}
+use Rattle.logic.specs.Tests.{Truth, holds, fails, truth}
 use Rattle.labelling_laws.specs.LoopLaws.{labels-read}
-use Rattle.text.specs.ReadSteps.{bind-value, require-value}
 use Rattle.text.specs.PieceReading.{Shaped, Room, sizes-long, vertices-full, lengths-full}
 use Rattle.text.specs.Back.{pieces-back}
 use Rattle.text.specs.Plans.{planAnswer, After as AfterReading}
-use Rattle.text.specs.Accepted.{Accepted, Sound, plan-accepted, network-accepted}
+use Rattle.text.specs.Accepted.{shape-of, network-accepted}
 use Rattle.basics.specs.Buffers.{put}
 use Rattle.answer.specs.Output.{Put}
 use Rattle.answer.specs.Refusals.{Numbered, numbered-text}
@@ -115,9 +117,9 @@ module _ (text s v l : List ℕ) (answer : ReadAnswer) (s′ v′ l′ : List �
 -- ---- the labelling
 
 -- the pieces behind the buffers, judged
-module _ (plan : Plan) (sound : Sound plan) where
+module _ (plan : Plan) (sound : SoundPlan plan) where
   shaped : Every Shaped (plan .pieces)
-  shaped = every-imp (Accepted (plan .n)) Shaped (plan .pieces) (λ q a. a .shape) (sound .each)
+  shaped = every-imp (SoundPiece (plan .n)) Shaped (plan .pieces) (shape-of (plan .n)) (sound .each)
 
   room : Room (length (plan .pieces)) (sizesOf (plan .pieces)) (verticesOf (plan .pieces)) (lengthsOf (plan .pieces))
   room = record { pieces = plan .pieces; count = refl; held = record { shaped = shaped; sizes-hold = refl; vertices-hold = refl; lengths-hold = refl } }
@@ -158,8 +160,8 @@ unfolding stateListing labelAnswer
 state-listing n source st h = rw (lines-same st 1 n (omega arith) (omega arith))
 
 module _ (text s v l : List ℕ) (answer : ReadAnswer) (u : Understood text answer s v l) where
-  sound : Sound (u .plan)
-  sound = plan-accepted text (u .plan) (text-value text (u .plan) (u .said) .1)
+  sound : SoundPlan (u .plan)
+  sound = text-read text (u .plan) (text-value text (u .plan) (u .said) .1) .0
 
   pub vertices-fit : answer .n ≤ maxVertices
   vertices-fit = rw (u .answered) (bounds-in (u .plan .n) (length (u .plan .pieces)) (sound .bounds) .0)
@@ -185,7 +187,7 @@ listing-fits text = go (seen (readText text))
     go : Seen (readText text) → length (listing text) ≤ listingPlaces
     go (turned k e) = rw e (omega (arith, refusal-fits k))
     go (read plan e) =
-        let few = bounds-in (plan .n) (length (plan .pieces)) (plan-accepted text plan (text-value text plan e .1) .bounds) .0 in
+        let few = bounds-in (plan .n) (length (plan .pieces)) (text-read text plan (text-value text plan e .1) .0 .bounds) .0 in
         let st = labelling (blocks (plan .pieces)) (plan .source) in
         rw (e, state-listing (plan .n) (plan .source) st few, length-append, length-line, length-vertices) (omega arith)
 

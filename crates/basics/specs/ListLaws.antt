@@ -1,5 +1,4 @@
 -- Laws of lists.
---   all-at all-is every-is        a computed test gives a fact of each number, of each member
 --   all-same all-next all-fails   tests that agree; one number more; one number that fails
 --   Every Any                     a property of all members, of some member
 --   total-..                      sums
@@ -16,24 +15,11 @@ use native.Mathlib.Omega.{arith}
 use borrow.Author.Tests.{eq-eqb, ne-eqb, not-true}
 use lib.Dec.{eqb}
 use lib.ListN.{getD, length, set, length-append, length-replicate}
-use Rattle.definitions.specs.Lists.{all, count, every, Every, mem, different, total, padded}
-use Rattle.basics.specs.Tests.{clash, and-left, and-right, and-both, or-left, or-right, Truth, holds, fails, truth, Equal, equal, differ, equality}
+use Rattle.definitions.specs.Lists.{all, count, Every, mem, different, total, padded}
+use Rattle.definitions.specs.Laws.Members.{all-at}
+use Rattle.logic.specs.Tests.{clash, and-left, and-right, and-both, or-left, or-right, Truth, holds, fails, truth, Equal, equal, differ, equality}
 
 -- ---- a computed test
-
-pub all-at : (p : ℕ → Bool) (n : ℕ) → all p n ≡ true → (i : ℕ) → i < n → p i ≡ true
-unfolding all
-all-at p zero h i l = let z : _≡_ {A = ℕ} 0 1 = omega arith in cc
-all-at p (suc n) h i l = go (all-at p n (and-left (all p n) (p n) h) i) (eq-or-lt-of-le l)
-  where
-    go : (i < n → p i ≡ true) → (suc i ≡ suc n) ⊎ (suc i < suc n) → p i ≡ true
-    go f (inl q) = let z : i ≡ n = omega arith in rw z (and-right (all p n) (p n) h)
-    go f (inr q) = f (omega arith)
-
-pub all-is : (p : ℕ → Bool) (n : ℕ) → ((i : ℕ) → i < n → p i ≡ true) → all p n ≡ true
-unfolding all
-all-is p zero f = refl
-all-is p (suc n) f = and-both (all p n) (p n) (all-is p n (λ i l. f i (omega arith))) (f n (omega arith))
 
 pub all-same : (p q : ℕ → Bool) (n : ℕ) → ((i : ℕ) → i < n → p i ≡ q i) → all p n ≡ all q n
 unfolding all
@@ -54,11 +40,6 @@ all-fails p n i l h = go (truth (all p n))
 
 -- ---- a property of all members
 
-pub every-is : {A : Type 0} (p : A → Bool) (P : A → Type 0) → ((x : A) → p x ≡ true → P x) → (xs : List A) → every p xs ≡ true → Every P xs
-unfolding every
-every-is p P f [] h = tt
-every-is p P f (x ∷ xs) h = (f x (and-left (p x) (every p xs) h), every-is p P f xs (and-right (p x) (every p xs) h))
-
 module _ {A : Type 0} where
   pub every-at : (P : A → Type 0) (xs : List A) → Every P xs → (i : ℕ) (d : A) → i < length xs → P (getD xs i d)
   every-at P [] h i d l = absurd (omega arith)
@@ -77,10 +58,6 @@ module _ {A : Type 0} where
   pub every-append : (P : A → Type 0) (xs ys : List A) → Every P xs → Every P ys → Every P (xs ++ ys)
   every-append P [] ys h k = k
   every-append P (x ∷ xs) ys h k = (h .0, every-append P xs ys (h .1) k)
-
-  pub every-imp : (P Q : A → Type 0) (xs : List A) → ((x : A) → P x → Q x) → Every P xs → Every Q xs
-  every-imp P Q [] f h = tt
-  every-imp P Q (x ∷ xs) f h = (f x (h .0), every-imp P Q xs f (h .1))
 
   -- place by place
   pub every-all : (P : A → Type 0) (xs : List A) (d : A) → ((i : ℕ) → i < length xs → P (getD xs i d)) → Every P xs

@@ -10,7 +10,7 @@ use native.Mathlib.Omega.{arith}
 use borrow.Author.Tests.{eq-eqb, ne-eqb}
 use lib.ListN.{getD, length}
 use Rattle.definitions.specs.Labelling.{placeOf}
-use Rattle.basics.specs.Tests.{clash}
+use Rattle.logic.specs.Tests.{clash}
 use Rattle.basics.specs.ListLaws.{Different}
 use Rattle.basics.specs.Sequences.{mem-at}
 

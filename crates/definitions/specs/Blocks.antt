@@ -2,16 +2,19 @@
 --   Split splits splitsOf allSplits    the halving, in the order of 01
 --   Window windows windowsOf           the blocks of a size, by places
 --   Block blockOf blocks               the blocks of a network, by vertices
---   Monge isMonge passes               the check: the inequality, and a test that computes
+--   passes                             the check, with the law that it is the inequality of the file Monge
 --   logarithm weight                   ⌈log₂ m⌉, and the sum over pieces of m·⌈log₂ m⌉: they restate the bound of demand 3
+use mathlib.Core.Path.{_≡_}
 use mathlib.Core.Bool.{Bool, true, false}
 use mathlib.Core.List.{List, [], _∷_, _++_, map}
-use Prim.Native.Nat.{ℕ, zero, suc, pred, _+_, _-_, _*_, _/_, _≤_, _<_}
-use lib.Dec.{ltb, leb}
+use Prim.Native.Nat.{ℕ, zero, suc, _+_, _-_, _*_, _/_}
+use lib.Dec.{ltb}
 use lib.ListN.{getD, length}
 use Rattle.definitions.specs.Limits.{maxSize}
-use Rattle.definitions.specs.Lists.{all, total, upFrom, downTo}
+use Rattle.definitions.specs.Lists.{total, upFrom, downTo}
 use Rattle.definitions.specs.Network.{Rectangle, Piece, entry, sizeOf}
+use Rattle.definitions.specs.Monge.{Monge, isMonge}
+use Rattle.definitions.specs.Laws.MongeLaws.{isMonge-is, isMonge-from}
 
 -- A stretch of places, from `first` up to `end`, cut at `middle` into its first half, before it, and its second, from it on.
 pub record Split : Type 0 where
@@ -94,21 +97,15 @@ blocks (q ∷ qs) = blocksOf q ++ blocks qs
 abbrev pub noBlock : Block
 noBlock = record { rows = []; cols = []; lengths = λ i k. 0 }
 
--- Monge, 01's checked: of any two neighbouring rows and columns the diagonal has no larger sum than the other two corners.
-abbrev pub Monge : Rectangle → ℕ → ℕ → Type 0
-Monge e rows cols = (i k : ℕ) → suc i < rows → suc k < cols → e i k + e (suc i) (suc k) ≤ e i (suc k) + e (suc i) k
-
--- the same as a test, for one pair of each
-unfoldable pub corners : Rectangle → ℕ → ℕ → Bool
-corners e i k = leb (e i k + e (suc i) (suc k)) (e i (suc k) + e (suc i) k)
-
--- for all pairs; with one row or one column there is none
-unfoldable pub isMonge : Rectangle → ℕ → ℕ → Bool
-isMonge e rows cols = all (λ i. all (λ k. corners e i k) (pred cols)) (pred rows)
-
 -- a block passes its check
 unfoldable pub passes : Block → Bool
 passes b = isMonge (b .lengths) (length (b .rows)) (length (b .cols))
+
+-- It passes exactly if the inequality holds of all its neighbouring rows and columns.
+pub passes-exactly : (b : Block)
+    → (passes b ≡ true → Monge (b .lengths) (length (b .rows)) (length (b .cols))) × (Monge (b .lengths) (length (b .rows)) (length (b .cols)) → passes b ≡ true)
+unfolding passes
+passes-exactly b = (isMonge-is (b .lengths) (length (b .rows)) (length (b .cols)), isMonge-from (b .lengths) (length (b .rows)) (length (b .cols)))
 
 -- ---- the bound of demand 3, restated
 

@@ -18,7 +18,8 @@ use Rattle.definitions.specs.declared.SessionAnswer.{SessionAnswer}
 use Rattle.definitions.specs.Limits.{maxVertices, maxLength, maxSide, maxCalls, sizePlaces, vertexPlaces, lengthPlaces, rowPlaces, labelPlaces, rectanglePlaces, callPlaces, answerPlaces, intervalPlaces, callSize, answerSize, columnBytes, lineFields, linePlaces, lastPlace, unusedInterval}
 use Rattle.definitions.specs.Lists.{all, upFrom, padded, within, firstCause}
 use Rattle.definitions.specs.Network.{Rectangle}
-use Rattle.definitions.specs.Blocks.{isMonge, blocks}
+use Rattle.definitions.specs.Monge.{isMonge}
+use Rattle.definitions.specs.Blocks.{blocks}
 use Rattle.definitions.specs.Intervals.{Interval, interval}
 use Rattle.definitions.specs.Model.{intervals, Call, Answer, trace}
 use Rattle.definitions.specs.Labelling.{State, labelOf, labelling, reached, extractions, insertions, heldLabel, labels}

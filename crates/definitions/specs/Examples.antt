@@ -8,7 +8,8 @@ use lib.ListN.{getD, length, replicate}
 use Rattle.definitions.specs.Limits.{sizePlaces, vertexPlaces, lengthPlaces, rowPlaces, labelPlaces, rectanglePlaces, callPlaces, answerPlaces, intervalPlaces, unreached, unusedInterval}
 use Rattle.definitions.specs.Lists.{all, every, mem, different, total, upFrom, downTo, padded, within, firstCause}
 use Rattle.definitions.specs.Network.{entry, sizeOf}
-use Rattle.definitions.specs.Blocks.{splits, splitsOf, windows, windowsOf, rowsOf, columnsOf, corners, isMonge, Block, blockOf, blocksOf, blocks, noBlock, passes}
+use Rattle.definitions.specs.Blocks.{splits, splitsOf, windows, windowsOf, rowsOf, columnsOf, Block, blockOf, blocksOf, blocks, noBlock, passes}
+use Rattle.definitions.specs.Monge.{corners, isMonge}
 use Rattle.definitions.specs.Best.{lesser, least, placed, leastFrom}
 use Rattle.definitions.specs.Intervals.{adjoins, joined, prepend, prependColumn, runs, sameInterval, isKept, countNew}
 use Rattle.definitions.specs.Model.{through, parent, available, intervals, isActivated, judge, activate, extract, step, extend, traceFrom, trace}

@@ -8,7 +8,7 @@ use lib.ListN.{getD, length}
 use Rattle.definitions.specs.Limits.{maxSide, maxLength, rowPlaces}
 use Rattle.definitions.specs.Lists.{Every}
 use Rattle.definitions.specs.Network.{Rectangle}
-use Rattle.definitions.specs.Blocks.{Monge}
+use Rattle.definitions.specs.Monge.{Monge}
 use Rattle.definitions.specs.Model.{Activation, Model, intervals, Reached}
 use Rattle.definitions.specs.HeapWords.{heapWords, markOf, kept}
 

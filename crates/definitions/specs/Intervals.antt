@@ -1,12 +1,13 @@
 -- Document 01, "The heap of one block": intervals, and the longest runs of columns with one parent.
 --   Interval adjoins joined prepend    an interval, and one put before others
 --   prependColumn runs                 the longest runs
+--   LongestRun                         one of them in plain terms
 --   Rising Distinct                    their order; each stands once
 --   isKept countNew                    how many of one list are not in another
 use mathlib.Core.Path.{_≡_}
 use mathlib.Core.Bool.{Bool, false, cond, _&&_, _||_}
 use mathlib.Core.List.{List, [], _∷_}
-use Prim.Native.Nat.{ℕ, zero, suc, _≤_}
+use Prim.Native.Nat.{ℕ, zero, suc, pred, _≤_, _<_}
 use lib.Dec.{eqb}
 use Rattle.definitions.specs.Best.{Best, nobody, by}
 
@@ -36,6 +37,18 @@ prependColumn c (by p s) vs = prepend (interval p c c) vs
 unfoldable pub runs : (ℕ → Best) → ℕ → ℕ → List Interval
 runs w c zero = []
 runs w c (suc n) = prependColumn c (w c) (runs w (suc c) n)
+
+-- column k has the parent p
+abbrev pub Owned : (ℕ → Best) → ℕ → ℕ → Type 0
+Owned w p k = (s : ℕ) × (w k ≡ by p s)
+
+-- In plain terms: of n columns, those from f to l have the parent p, and neither the column before f nor the one after l has.
+pub record LongestRun (w : ℕ → Best) (n p f l : ℕ) : Type 0 where
+  pub ordered : f ≤ l
+  pub inside : l < n
+  pub owned : (k : ℕ) → f ≤ k → k ≤ l → Owned w p k
+  pub before : 0 < f → Owned w p (pred f) → ⊥
+  pub after : suc l < n → Owned w p (suc l) → ⊥
 
 -- each begins after the one before it ends, the first not before column lo
 abbrev pub Rising : ℕ → List Interval → Type 0

@@ -18,13 +18,13 @@ use Rattle.definitions.specs.Network.{Rectangle}
 use Rattle.definitions.specs.Best.{nobody, by, least}
 use Rattle.definitions.specs.Intervals.{Interval, interval, runs, sameInterval, isKept, countNew}
 use Rattle.definitions.specs.Model.{Model, through, parent, available, isActivated, activate, intervals}
-use Rattle.basics.specs.Tests.{clash, split-at, Order, less, more, order}
+use Rattle.definitions.specs.Laws.RunProofs.{tag, tag-is, runs-same, runs-none, Longest, runs-longest}
+use Rattle.logic.specs.Tests.{clash, split-at, Order, less, more, order}
 use Rattle.heap_laws.specs.Inequality.{MongeAll}
 use Rattle.heap_laws.specs.Lesser.{beats, wins, loses}
 use Rattle.heap_laws.specs.Parents.{parent-snoc, parent-activated, available-parent}
 use Rattle.heap_laws.specs.Won.{won, won-between, Range, range}
 use Rattle.heap_laws.specs.Sound.{Sound, won-available}
-use Rattle.heap_laws.specs.Runs.{tag, tag-is, runs-same, runs-none, Longest, runs-longest}
 use Rattle.heap_laws.specs.Sides.{Break, runs-one}
 use Rattle.heap_laws.specs.Counting.{countNew-same}
 use Rattle.heap_laws.specs.Edits.{before, from, cutAt, cutAt-le, edited, edited-new}

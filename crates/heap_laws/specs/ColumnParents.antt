@@ -12,11 +12,11 @@ use Rattle.definitions.specs.Lists.{mem}
 use Rattle.definitions.specs.Network.{Rectangle}
 use Rattle.definitions.specs.Best.{Best, nobody, by}
 use Rattle.definitions.specs.Model.{Model, parent, available, intervals}
-use Rattle.basics.specs.Tests.{Truth, holds, fails, truth}
+use Rattle.definitions.specs.Laws.RunProofs.{tag, lookup, lookup-runs}
+use Rattle.logic.specs.Tests.{Truth, holds, fails, truth}
 use Rattle.heap_laws.specs.Parents.{parent-nobody}
 use Rattle.heap_laws.specs.Won.{won}
 use Rattle.heap_laws.specs.Sound.{Sound, extracted-lost}
-use Rattle.heap_laws.specs.Runs.{tag, lookup, lookup-runs}
 
 module _ (e : Rectangle) (rows cols : ℕ) (m : Model) (c : ℕ) (hc : c < cols) where
   pub lookup-available : lookup c (intervals e cols m) ≡ tag (available e m c)

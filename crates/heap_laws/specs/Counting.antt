@@ -1,5 +1,4 @@
 -- How many intervals of one list are not in another.
---   sameInterval-refl sameInterval-is      the test for equal intervals
 --   isKept-append                          an interval of two lists
 --   countNew-append                        of two lists
 --   countNew-tail countNew-same            none of a part, none of the same
@@ -7,32 +6,19 @@
 --   runs-distinct                          runs stand each once
 --   balance                                inserted and kept before = removed and kept after
 use mathlib.Core.Path.{_≡_, refl, sym, ap}
-use mathlib.Core.Bool.{true, false, cond, _&&_, _||_, or-true, or-assoc, and-false}
+use mathlib.Core.Bool.{true, false, cond, _||_, or-true, or-assoc, and-false}
 use mathlib.Core.List.{List, [], _∷_, _++_, append-assoc}
 use mathlib.Core.Logic.{_≢_}
 use Prim.Native.Nat.{ℕ, suc, _+_, _<_}
 use native.Mathlib.Nat.{zero-add}
 use native.Mathlib.Omega.{arith}
-use borrow.Author.Tests.{eq-eqb, ne-eqb, eqb-true}
-use lib.Dec.{eqb}
+use borrow.Author.Tests.{ne-eqb}
 use lib.ListN.{length}
 use Rattle.definitions.specs.Lists.{Every}
 use Rattle.definitions.specs.Best.{Best}
 use Rattle.definitions.specs.Intervals.{Interval, interval, runs, sameInterval, isKept, Distinct, countNew, Rising}
-use Rattle.basics.specs.Tests.{clash, and-left, and-right, Truth, holds, fails, truth}
-use Rattle.heap_laws.specs.Runs.{runs-rising}
-
-pub sameInterval-refl : (v : Interval) → sameInterval v v ≡ true
-unfolding sameInterval
-sameInterval-refl (interval p f l) = simp (eq-eqb p p refl, eq-eqb f f refl, eq-eqb l l refl)
-
-sameInterval-is : (v u : Interval) → sameInterval v u ≡ true → v ≡ u
-unfolding sameInterval
-sameInterval-is (interval p f l) (interval p′ f′ l′) h =
-    let a : p ≡ p′ = eqb-true p p′ (and-left (eqb p p′) (eqb f f′) (and-left (eqb p p′ && eqb f f′) (eqb l l′) h)) in
-    let b : f ≡ f′ = eqb-true f f′ (and-right (eqb p p′) (eqb f f′) (and-left (eqb p p′ && eqb f f′) (eqb l l′) h)) in
-    let c : l ≡ l′ = eqb-true l l′ (and-right (eqb p p′ && eqb f f′) (eqb l l′) h) in
-    rw (a, b, c)
+use Rattle.definitions.specs.Laws.RunProofs.{sameInterval-refl, sameInterval-is, runs-rising}
+use Rattle.logic.specs.Tests.{clash, Truth, holds, fails, truth}
 
 sameInterval-sym : (v u : Interval) → sameInterval v u ≡ false → sameInterval u v ≡ false
 sameInterval-sym v u h = go (truth (sameInterval u v))

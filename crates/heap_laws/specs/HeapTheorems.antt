@@ -1,12 +1,12 @@
 -- The main theorems about the heap of one block, each restated in full; the proofs cite the parts.
 -- They hold for Monge rectangles of any size, so the limit of 24 rows and columns is not needed, and for every list ks of calls of any
 -- length and any kind, from the fresh model on. M1 to M8 number the steps of the argument, here and in the other files.
---   the rectangle    monge-test all-pairs one-crossing
+--   the rectangle    all-pairs one-crossing
 --   the calls        one-more refused-changes-nothing
 --   the model        parents-rise won-one-range floors
 --   activate         activation-edits activation-wins-nothing activation-first
 --   extract          extraction-none extraction-some extractions-least extraction-edits
---   the intervals    intervals-are-longest-runs longest-runs-are-intervals intervals-once
+--   the intervals    intervals-once
 --   the counts       inserted-removed-kept extraction-inserts activation-inserts insertions-allowed insertions-few
 --   the places read  used-places
 use mathlib.Core.Path.{_≡_}
@@ -17,12 +17,13 @@ use Prim.Native.Nat.{ℕ, suc, pred, _+_, _*_, _≤_, _<_}
 use native.Mathlib.Omega.{arith}
 use lib.ListN.{length}
 use Rattle.definitions.specs.Limits.{sum}
-use Rattle.definitions.specs.Lists.{mem, Every}
+use Rattle.definitions.specs.Lists.{mem}
 use Rattle.definitions.specs.Network.{Rectangle}
-use Rattle.definitions.specs.Blocks.{Monge, isMonge}
+use Rattle.definitions.specs.Monge.{Monge}
 use Rattle.definitions.specs.Best.{by}
-use Rattle.definitions.specs.Intervals.{Interval, interval, isKept, Distinct, Rising}
-use Rattle.definitions.specs.Model.{LeastLeft, parent, available, extract, Model, fresh, intervals, Call, coded, judge, step, Trace, extend, trace, AllExtractLeast, allowances}
+use Rattle.definitions.specs.Intervals.{Interval, interval, Distinct, Rising}
+use Rattle.definitions.specs.Model.{LeastLeft, parent, available, extract, Model, fresh, intervals, intervals-rise, Call, coded, judge, step, Trace, extend, trace, AllExtractLeast, allowances}
+use Rattle.definitions.specs.Laws.RunProofs.{runs-length}
 use Rattle.heap_laws.specs.Inequality as inequality
 use Rattle.heap_laws.specs.Neighbours as neighbours
 use Rattle.heap_laws.specs.Lesser.{from-is, upTo-is}
@@ -30,9 +31,8 @@ use Rattle.heap_laws.specs.Parents as parents
 use Rattle.heap_laws.specs.Won.{won, won-between, Range, SomeRange, range}
 use Rattle.heap_laws.specs.Sound.{trace-sound, step-floor, won-available}
 use Rattle.heap_laws.specs.ModelCalls.{Activates, trace-snoc, trace-activate}
-use Rattle.heap_laws.specs.Runs.{runs-rising, IsRun, Longest, runs-longest, runs-length}
 use Rattle.heap_laws.specs.Counting.{runs-distinct}
-use Rattle.heap_laws.specs.Edits.{before, from, run-kept}
+use Rattle.heap_laws.specs.Edits.{before, from}
 use Rattle.heap_laws.specs.Activate as activation
 use Rattle.heap_laws.specs.Extract as extraction
 use Rattle.heap_laws.specs.TraceCounts as traces
@@ -40,10 +40,6 @@ use Rattle.heap_laws.specs.AllCalls.{trace-allowed, trace-extractions}
 use Rattle.heap_laws.specs.Agree as agree
 
 -- ---- the rectangle
-
--- The test of the check computes the inequality of neighbouring rows and columns, neither more nor less.
-pub monge-test : (e : Rectangle) (rows cols : ℕ) → (isMonge e rows cols ≡ true → Monge e rows cols) × (Monge e rows cols → isMonge e rows cols ≡ true)
-monge-test e rows cols = (neighbours.isMonge-is e rows cols, neighbours.isMonge-from e rows cols)
 
 -- M1. The inequality holds for all pairs of rows and of columns: the neighbouring ones between them add up, first along the
 -- columns, then along the rows.
@@ -146,18 +142,10 @@ module _ (e : Rectangle) (rows cols : ℕ) (ks : List Call) where
 
   -- ---- the intervals
 
-  -- They are exactly the longest runs of neighbouring columns with one parent, in rising order, each once, at most one for each column.
-  pub intervals-are-longest-runs : Every (Longest (available e model) 0 cols) kept
-  unfolding intervals
-  intervals-are-longest-runs = runs-longest (available e model) 0 cols
-
-  pub longest-runs-are-intervals : (p f l : ℕ) → IsRun (available e model) 0 cols p f l → isKept (interval p f l) kept ≡ true
-  unfolding intervals
-  longest-runs-are-intervals p f l run = run-kept (available e model) cols p f l run
-
+  -- They rise, each stands once, and there is at most one for each column. That they are exactly the longest runs stands beside their definition.
   pub intervals-once : Rising 0 kept × Distinct kept × (length kept ≤ cols)
   unfolding intervals
-  intervals-once = (runs-rising (available e model) 0 cols, runs-distinct (available e model) 0 cols, runs-length (available e model) 0 cols)
+  intervals-once = (intervals-rise e cols model, runs-distinct (available e model) 0 cols, runs-length (available e model) 0 cols)
 
   -- ---- the counts
 

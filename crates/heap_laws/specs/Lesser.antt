@@ -3,7 +3,7 @@
 --   beats                          a sum that is strictly below a best
 --   wins loses                     what a later sum changes
 --   From UpTo ..                   bounds of a best's sum
---   from-is upTo-is beats-is       the three, spelled out
+--   from-is from-each upTo-is beats-is   the three, spelled out
 use mathlib.Core.Path.{_≡_, refl}
 use mathlib.Core.Bool.{Bool, true, false, cond}
 use Prim.Native.Nat.{ℕ, _≤_, _<_}
@@ -12,7 +12,7 @@ use borrow.Author.Tests.{lt-ltb, le-ltb, ltb-true}
 use lib.Dec.{ltb}
 use Rattle.definitions.specs.Limits.{below}
 use Rattle.definitions.specs.Best.{Best, nobody, by, lesser}
-use Rattle.basics.specs.Tests.{clash, Order, less, more, order}
+use Rattle.logic.specs.Tests.{clash, Order, less, more, order}
 
 pub lesser-nobody : (x : Best) → lesser x nobody ≡ x
 unfolding lesser
@@ -61,10 +61,6 @@ abbrev pub UpTo : ℕ → Best → Type 0
 UpTo n nobody = ⊥
 UpTo n (by p s) = s ≤ n
 
-pub from-le : (n m : ℕ) (x : Best) → n ≤ m → From m x → From n x
-from-le n m nobody l h = tt
-from-le n m (by p s) l h = omega arith
-
 pub upTo-le : (n m : ℕ) (x : Best) → n ≤ m → UpTo n x → UpTo m x
 upTo-le n m nobody l h = h
 upTo-le n m (by p s) l h = omega arith
@@ -103,6 +99,10 @@ upTo-right n (by p s) (by p′ s′) h = go (order s′ s)
 -- the same, spelled out
 pub from-is : (n p s : ℕ) (x : Best) → From n x → x ≡ by p s → n ≤ s
 from-is n p s x h q = rw q at h
+
+pub from-each : (n : ℕ) (x : Best) → ((p s : ℕ) → x ≡ by p s → n ≤ s) → From n x
+from-each n nobody h = tt
+from-each n (by p s) h = h p s refl
 
 pub upTo-is : (n : ℕ) (x : Best) → UpTo n x → (p : ℕ) × (s : ℕ) × (x ≡ by p s) × (s ≤ n)
 upTo-is n nobody h = absurd h

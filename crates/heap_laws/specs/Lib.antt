@@ -5,9 +5,7 @@ pub mod Lesser
 pub mod Parents
 pub mod Won
 pub mod ModelCalls
-pub mod Found
 pub mod Sound
-pub mod Runs
 pub mod Sides
 pub mod Counting
 pub mod Edits

@@ -1,29 +1,17 @@
 -- From the check of a block, of neighbouring rows and columns, to all pairs. Nothing else in the laws looks at neighbours.
---   isMonge-is isMonge-from       the test that computes, and the inequality of neighbours
 --   monge-all                     M1: the inequality for all pairs of rows and of columns
 --   monge-neighbours              and back: neighbours are a pair
 --   isMonge-all                   so a block that passes has it
 use mathlib.Core.Path.{_≡_}
 use mathlib.Core.Bool.{true}
-use Prim.Native.Nat.{ℕ, suc, pred, _+_, _≤_, _<_}
+use Prim.Native.Nat.{ℕ, suc, _+_, _≤_, _<_}
 use native.Mathlib.Nat.{le-refl}
 use native.Mathlib.Omega.{arith}
 use native.Mathlib.Decide.{le-ind}
-use borrow.Author.Tests.{leb-true, le-leb}
-use Rattle.definitions.specs.Lists.{all}
 use Rattle.definitions.specs.Network.{Rectangle}
-use Rattle.definitions.specs.Blocks.{Monge, corners, isMonge}
-use Rattle.basics.specs.ListLaws.{all-at, all-is}
+use Rattle.definitions.specs.Monge.{Monge, isMonge}
+use Rattle.definitions.specs.Laws.MongeLaws.{isMonge-is}
 use Rattle.heap_laws.specs.Inequality.{MongeAll}
-
-pub isMonge-is : (e : Rectangle) (rows cols : ℕ) → isMonge e rows cols ≡ true → Monge e rows cols
-unfolding isMonge corners
-isMonge-is e rows cols t i k hi hk =
-    leb-true _ _ (all-at (λ k. corners e i k) (pred cols) (all-at (λ i. all (λ k. corners e i k) (pred cols)) (pred rows) t i (omega arith)) k (omega arith))
-
-pub isMonge-from : (e : Rectangle) (rows cols : ℕ) → Monge e rows cols → isMonge e rows cols ≡ true
-unfolding isMonge corners
-isMonge-from e rows cols ok = all-is _ (pred rows) (λ i hi. all-is _ (pred cols) (λ k hk. le-leb _ _ (ok i k (omega arith) (omega arith))))
 
 module _ (e : Rectangle) (rows cols : ℕ) (ok : Monge e rows cols) where
   -- neighbouring rows, any two columns

@@ -20,7 +20,7 @@ use Rattle.definitions.specs.Lists.{mem, Every}
 use Rattle.definitions.specs.Network.{Rectangle}
 use Rattle.definitions.specs.Best.{Best, nobody, by, lesser, least}
 use Rattle.definitions.specs.Model.{Activation, Model, through, parent, available, isActivated}
-use Rattle.basics.specs.Tests.{clash, or-left, or-right, split-at, Order, less, more, order, Truth, holds, fails, truth}
+use Rattle.logic.specs.Tests.{clash, or-left, or-right, split-at, Order, less, more, order, Truth, holds, fails, truth}
 use Rattle.basics.specs.ListLaws.{every-at}
 use Rattle.heap_laws.specs.Inequality.{MongeAll, crossing}
 use Rattle.heap_laws.specs.Lesser.{lesser-nobody, lesser-assoc}

@@ -19,14 +19,14 @@ use Rattle.definitions.specs.Limits.{maxLabel, sum}
 use Rattle.definitions.specs.Lists.{mem, Every}
 use Rattle.definitions.specs.Network.{Rectangle}
 use Rattle.definitions.specs.Best.{Best, nobody, by, lesser, least, leastFrom}
+use Rattle.definitions.specs.Laws.LeastLaws.{Found, found-is}
 use Rattle.definitions.specs.Model.{Activation, Model, fresh, through, parent, available, isActivated, Call, activate, extract, step, Trace, extend, traceFrom, trace, Reached}
-use Rattle.basics.specs.Tests.{clash, or-left, Truth, holds, fails, truth}
+use Rattle.logic.specs.Tests.{clash, or-left, Truth, holds, fails, truth}
 use Rattle.basics.specs.ListLaws.{every-snoc, every-map, Different, mem-snoc, different-snoc, at-most}
-use Rattle.heap_laws.specs.Lesser.{From, UpTo, from-lesser, upTo-lesser, upTo-le, upTo-beats}
+use Rattle.heap_laws.specs.Lesser.{From, UpTo, from-each, from-lesser, upTo-lesser, upTo-le, upTo-beats}
 use Rattle.heap_laws.specs.Parents.{Once, once-snoc, parent-snoc}
 use Rattle.heap_laws.specs.Won.{won}
 use Rattle.heap_laws.specs.ModelCalls.{cases, Cases, activates, extracts, refuses, step-activate, step-extract, step-refused, trace-snoc, trace-induction}
-use Rattle.heap_laws.specs.Found.{Found, found-is}
 
 pub record Sound (e : Rectangle) (rows cols : ℕ) (m : Model) : Type 0 where
   -- the activated rows are rows, each once, with labels within the limit
@@ -84,7 +84,7 @@ module _ (e : Rectangle) (rows cols : ℕ) where
 
       above : (d : ℕ) → d < cols → Truth (mem d (m .extracted) || eqb d c) → From s (cond (mem d (m .extracted) || eqb d c) nobody (parent e (m .activated) d))
       above d l (holds u) = simp u tt
-      above d l (fails u) = simp u (simp (or-left (mem d (m .extracted)) (eqb d c) u) at (f .no-less d (omega arith) (omega arith)))
+      above d l (fails u) = simp u (simp (or-left (mem d (m .extracted)) (eqb d c) u) at (from-each s (cond (mem d (m .extracted)) nobody (parent e (m .activated) d)) (λ q t r. f .no-less d q t (omega arith) (omega arith) r)))
 
       go : Truth (mem c (m .extracted)) → Sound e rows cols (extract m (by c s))
       go (holds t) = let bad : nobody ≡ by p s = simp t at (f .here) in let z : _≡_ {A = ℕ} 0 1 = cc in absurd (omega arith)

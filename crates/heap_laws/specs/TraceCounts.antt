@@ -13,10 +13,10 @@ use lib.ListN.{length, length-append}
 use Rattle.definitions.specs.Network.{Rectangle}
 use Rattle.definitions.specs.Best.{Best, nobody, by, leastFrom}
 use Rattle.definitions.specs.Intervals.{countNew}
+use Rattle.definitions.specs.Laws.LeastLaws.{Found, found-is}
 use Rattle.definitions.specs.Model.{available, Model, fresh, activate, extract, intervals, judge, Call, Answer, coded, extractionOf, step, allowance, Trace, extend, trace}
 use Rattle.heap_laws.specs.Inequality.{MongeAll}
 use Rattle.heap_laws.specs.ModelCalls.{Cases, activates, extracts, refuses, cases, step-activate, step-extract, step-refused, trace-induction}
-use Rattle.heap_laws.specs.Found.{Found, found-is}
 use Rattle.heap_laws.specs.Sound.{Sound, fresh-sound, extend-sound}
 use Rattle.heap_laws.specs.Counting.{countNew-same, runs-distinct, balance}
 use Rattle.heap_laws.specs.Activate.{none-kept, activate-new}

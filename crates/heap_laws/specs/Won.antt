@@ -16,7 +16,7 @@ use Rattle.definitions.specs.Lists.{Every}
 use Rattle.definitions.specs.Network.{Rectangle}
 use Rattle.definitions.specs.Best.{Best, nobody, by}
 use Rattle.definitions.specs.Model.{Activation, parent}
-use Rattle.basics.specs.Tests.{clash, below-suc, split-at, Order, less, more, order, Truth, holds, fails, truth}
+use Rattle.logic.specs.Tests.{clash, below-suc, split-at, Order, less, more, order, Truth, holds, fails, truth}
 use Rattle.heap_laws.specs.Inequality.{MongeAll, crossing-later, crossing-earlier}
 use Rattle.heap_laws.specs.Lesser.{beats, beats-is}
 use Rattle.heap_laws.specs.Parents.{rowAt, labelAt, sumAt, IsParent, parent-is, parent-nobody, row-in}

@@ -13,17 +13,18 @@ use lib.Seq.{take-take, drop-drop}
 use Rattle.definitions.specs.Limits.{maxSize, rowPlaces, tablePlaces}
 use Rattle.definitions.specs.Lists.{every, upFrom, firstCause, Every}
 use Rattle.definitions.specs.Network.{Piece, entry, sizeOf}
-use Rattle.definitions.specs.Blocks.{Window, windowsOf, rowsOf, columnsOf, isMonge, blockOf, blocksOf, passes}
+use Rattle.definitions.specs.Blocks.{Window, windowsOf, rowsOf, columnsOf, blockOf, blocksOf, passes}
+use Rattle.definitions.specs.Monge.{isMonge}
 use Rattle.definitions.specs.Judgement.{judgeSize, judgeBlocks, judgePiece, pieceAt}
 use Rattle.definitions.specs.Entries.{hasPlaces}
-use Rattle.basics.specs.Tests.{Equal, equal, differ, equality}
+use Rattle.definitions.specs.Laws.Causes.{passed, last, size-in}
+use Rattle.logic.specs.Tests.{Equal, equal, differ, equality}
 use Rattle.splits.specs.Windows.{Inside, windows-inside}
 use Rattle.monge.specs.Matrix.{at, mongeIn, reversed, rowsIn}
 use Rattle.basics.specs.Sequences.{length-upFrom}
 use Rattle.monge.specs.Copies.{block-passes}
 use Rattle.basics.specs.PiecePlaces.{block-rows, block-cols}
 use Rattle.judgements.specs.LentPieces.{pieceIn, tableIn, judgeTable}
-use Rattle.basics.specs.Causes.{passed, last, size-in}
 
 -- ---- blocks
 

@@ -4,19 +4,18 @@
 use mathlib.Core.Path.{_≡_}
 use mathlib.Core.Bool.{true, _&&_}
 use mathlib.Core.List.{List, [], _∷_}
-use Prim.Native.Nat.{ℕ, suc, _≤_}
+use Prim.Native.Nat.{ℕ, _≤_}
 use native.Mathlib.Omega.{arith}
-use borrow.Author.Tests.{leb-true}
-use lib.Dec.{eqb, leb}
 use lib.ListN.{getD, length}
 use Rattle.definitions.specs.Limits.{maxSize, maxLength}
 use Rattle.definitions.specs.Lists.{every, different, within, Every}
 use Rattle.definitions.specs.Network.{Piece, entry, sizeOf}
 use Rattle.definitions.specs.Blocks.{blocksOf, passes}
-use Rattle.definitions.specs.Judgement.{judgeBounds, judgeSize, judgeVertices, judgeRow, judgeRows, judgeBlocks, judgeSource, judgePiece}
-use Rattle.basics.specs.Tests.{and-left, and-right}
-use Rattle.basics.specs.ListLaws.{every-is, Different, different-is}
-use Rattle.basics.specs.Causes.{no-cause, test-holds, within-is}
+use Rattle.definitions.specs.Judgement.{judgeBounds, judgeSize, judgeVertices, judgeRows, judgeBlocks, judgeSource, judgePiece}
+use Rattle.definitions.specs.Laws.Causes.{no-cause, test-holds, within-is, vertices-in, Short, rows-short}
+use Rattle.definitions.specs.Laws.Members.{every-is}
+use Rattle.logic.specs.Tests.{and-right}
+use Rattle.basics.specs.ListLaws.{Different, different-is}
 use Rattle.labelling_laws.specs.VertexPlaces.{at-place}
 
 -- a network of n vertices with these pieces is accepted, and a source in it
@@ -34,17 +33,6 @@ pub record Suits (n : ℕ) (q : Piece) : Type 0 where
   pub short : (i j : ℕ) → entry q i j ≤ maxLength
   pub monge : Every (λ b. passes b ≡ true) (blocksOf q)
 
-abbrev Short : List ℕ → Type 0
-Short row = Every (λ l. l ≤ maxLength) row
-
-rows-short : (i : ℕ) (rows : List (List ℕ)) → judgeRows i rows ≡ 0 → Every Short rows
-unfolding judgeRows judgeRow
-rows-short i [] h = tt
-rows-short i (row ∷ rows) h =
-    let p = no-cause (judgeRow i row ∷ judgeRows (suc i) rows ∷ []) h in
-    let t : (every (λ l. leb l maxLength) row && eqb (getD row i 0) 0) ≡ true = test-holds _ 5 (p .0) in
-    (every-is (λ l. leb l maxLength) (λ l. l ≤ maxLength) (λ l. leb-true l maxLength) row (and-left (every (λ l. leb l maxLength) row) (eqb (getD row i 0) 0) t), rows-short (suc i) rows (p .1 .0))
-
 pub size-passes : (n m : ℕ) (q : Piece) → judgePiece n m q ≡ 0 → m ≤ maxSize
 unfolding judgePiece judgeSize
 size-passes n m q h = (within-is maxSize m (test-holds _ 3 ((no-cause (judgeSize m ∷ judgeVertices n (q .vertices) ∷ judgeRows 0 (q .rows) ∷ judgeBlocks q ∷ []) h) .0))) .1
@@ -56,7 +44,7 @@ piece-suits n q h =
     let v : (every (within n) (q .vertices) && different (q .vertices)) ≡ true = test-holds _ 4 (p .1 .0) in
     record {
       size-high = size-passes n (sizeOf q) q h;
-      vertices-in = every-is (within n) (λ v. (1 ≤ v) × (v ≤ n)) (within-is n) (q .vertices) (and-left (every (within n) (q .vertices)) (different (q .vertices)) v);
+      vertices-in = vertices-in n (q .vertices) (p .1 .0);
       vertices-differ = different-is (q .vertices) (and-right (every (within n) (q .vertices)) (different (q .vertices)) v);
       short = λ i j. at-place (λ l. l ≤ maxLength) 0 (getD (q .rows) i []) (omega arith) (at-place Short [] (q .rows) tt (rows-short 0 (q .rows) (p .1 .1 .0)) i) j;
       monge = every-is passes (λ b. passes b ≡ true) (λ b t. t) (blocksOf q) (test-holds _ 6 (p .1 .1 .1 .0));

@@ -20,12 +20,13 @@ use Rattle.definitions.specs.Lists.{mem, Every}
 use Rattle.definitions.specs.Network.{Rectangle, Walk, stay, then}
 use Rattle.definitions.specs.Blocks.{Block, noBlock}
 use Rattle.definitions.specs.Best.{Best, nobody, by, least, leastFrom}
+use Rattle.definitions.specs.Laws.LeastLaws.{LowestFrom, Found, found-is}
 use Rattle.definitions.specs.Model.{Model, parent, available}
 use Rattle.definitions.specs.Labelling.{BlockState, extraction, freshBlock, apply, leastOf, activateVertex, Settled, settledAt, State, labelOf, settleAs, settle, noBlockState, chosen, placeIn, extractFrom, advance, steps, start}
-use Rattle.basics.specs.ListLaws.{every-at, every-set, every-snoc, every-imp, every-map, every-all, map-same, map-back, Different, different-snoc, at-most}
-use Rattle.heap_laws.specs.Lesser.{From, from-le}
+use Rattle.definitions.specs.Laws.Members.{every-imp}
+use Rattle.basics.specs.ListLaws.{every-at, every-set, every-snoc, every-map, every-all, map-same, map-back, Different, different-snoc, at-most}
+use Rattle.heap_laws.specs.Lesser.{From, from-each}
 use Rattle.heap_laws.specs.Parents.{available-parent, parent-row, parent-activated, parent-sum, rowLabel}
-use Rattle.heap_laws.specs.Found.{Found, Lowest, found-is}
 use Rattle.labelling_laws.specs.Labels.{label-old, label-new, Status, settled, unsettled, status, labelled, unlabelled}
 use Rattle.labelling_laws.specs.Activated.{row-settled}
 use Rattle.labelling_laws.specs.Walks.{BlockArc}
@@ -44,7 +45,7 @@ from-least s w n c l h = go (leastFrom w 0 n) (found-is w 0 n) h
   where
     go : (x : Best) → Found w 0 n x → From s x → From s (w c)
     go nobody f h = rw (f c (omega arith) (omega arith)) tt
-    go (by k t) f h = from-le s t (w c) h (f .no-less c (omega arith) (omega arith))
+    go (by k t) f h = from-each s (w c) (λ p u r. omega (arith, f .no-less c p u (omega arith) (omega arith) r))
 
 -- ---- what holds of every state
 
@@ -132,12 +133,12 @@ module _ (bs : List Block) (n source : ℕ) where
     pub choice : (st : State) (level i s : ℕ) → Inv st level → chosen st ≡ by i s → Choice st level i s
     unfolding chosen leastOf
     choice st level i s inv q =
-        let top : Lowest (λ j. leastOf (blockAt st j)) 0 (length (st .blocks)) i s = rw q at (found-is (λ j. leastOf (blockAt st j)) 0 (length (st .blocks))) in
+        let top : LowestFrom (λ j. leastOf (blockAt st j)) 0 (length (st .blocks)) i s = rw q at (found-is (λ j. leastOf (blockAt st j)) 0 (length (st .blocks))) in
         let here : BlockState = blockAt st i in
         let c : ℕ = top .holder in
         let e : Rectangle = here .block .lengths in
         let m : Model = here .trace .model in
-        let low : Lowest (available e m) 0 (length (here .block .cols)) c s = rw (top .here) at (found-is (available e m) 0 (length (here .block .cols))) in
+        let low : LowestFrom (available e m) 0 (length (here .block .cols)) c s = rw (top .here) at (found-is (available e m) 0 (length (here .block .cols))) in
         let col-in : c < length (here .block .cols) = omega (arith, low .high) in
         let good : Good n (st .settled) (st .settled) level here = every-at _ (st .blocks) (inv .good) i noBlockState (omega (arith, top .high)) in
         let p : ℕ = low .holder in
@@ -157,7 +158,7 @@ module _ (bs : List Block) (n source : ℕ) where
           col = c;
           here = top .here;
           rises = rw (low .here) at (good .fine .ahead c col-in);
-          beyond = λ j l. top .no-less j (omega arith) (omega arith);
+          beyond = λ j l. from-each s (leastOf (blockAt st j)) (λ p t r. top .no-less j p t (omega arith) (omega arith) r);
           found = record {
             low = (good .fit .cols-in c col-in) .0;
             high = (good .fit .cols-in c col-in) .1;

@@ -20,7 +20,8 @@ use lib.ListN.{getD, length}
 use Rattle.definitions.specs.Limits.{maxLabel, labelPlaces, unreached}
 use Rattle.definitions.specs.Lists.{count, all, every, mem, different, upFrom, downTo, within, firstCause, Every}
 use Rattle.definitions.specs.Network.{Piece, entry, sizeOf, Distance}
-use Rattle.definitions.specs.Blocks.{splits, splitsOf, windows, windowsOf, rowsOf, columnsOf, corners, isMonge, blockOf, blocksOf, blocks, passes, weight}
+use Rattle.definitions.specs.Blocks.{splits, splitsOf, windows, windowsOf, rowsOf, columnsOf, blockOf, blocksOf, blocks, passes, weight}
+use Rattle.definitions.specs.Monge.{corners, isMonge}
 use Rattle.definitions.specs.Best.{nobody}
 use Rattle.definitions.specs.Model.{intervals}
 use Rattle.definitions.specs.Labelling.{labelOf, chosen, steps, start, labelling, reached, extractions, insertions, labels}

@@ -10,9 +10,10 @@ use Rattle.definitions.specs.Lists.{upFrom, Every}
 use Rattle.definitions.specs.Network.{Piece, sizeOf}
 use Rattle.definitions.specs.Judgement.{judgeBounds, judgeSource, judgePiece, pieceAt, piecesOf, judgeFrom, judgeNetwork}
 use Rattle.definitions.specs.Entries.{hasPlaces, judgeBuffers, judgeLabelling}
+use Rattle.definitions.specs.Laws.Causes.{no-cause, bounds-in}
+use Rattle.basics.specs.Buffers.{buffers-are}
 use Rattle.basics.specs.Sequences.{length-upFrom}
 use Rattle.basics.specs.PiecePlaces.{piece-size}
-use Rattle.basics.specs.Causes.{no-cause, bounds-in, buffers-are}
 use Rattle.labelling_laws.specs.Acceptance.{Accepted, size-passes}
 
 module _ (n : ℕ) (sizes vertices lengths : List ℕ) where

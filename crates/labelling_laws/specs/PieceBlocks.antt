@@ -18,9 +18,9 @@ use Rattle.definitions.specs.Lists.{count, mem, Every}
 use Rattle.definitions.specs.Network.{Piece, Distance, distance, none}
 use Rattle.definitions.specs.Blocks.{blocks, weight}
 use Rattle.definitions.specs.Labelling.{Settled, State, labelOf, columns, labelling, reached, extractions, insertions, heldLabel, labels}
-use Rattle.basics.specs.Tests.{Equal, equal, differ, equality}
+use Rattle.definitions.specs.Laws.Causes.{bounds-in, source-in}
+use Rattle.logic.specs.Tests.{Equal, equal, differ, equality}
 use Rattle.basics.specs.ListLaws.{every-map, Different, counted, count-same}
-use Rattle.basics.specs.Causes.{bounds-in, source-in}
 use Rattle.labelling_laws.specs.Labels.{Status, settled, unsettled, status, labelled-mem, unlabelled}
 use Rattle.labelling_laws.specs.BlockSteps.{Setting}
 use Rattle.labelling_laws.specs.Ends.{labels-short, labels-in, vertices-in, vertices-differ, extractions-bound, insertions-bound}

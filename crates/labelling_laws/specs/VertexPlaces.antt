@@ -10,7 +10,7 @@ use native.Mathlib.Omega.{arith}
 use lib.ListN.{getD, length}
 use Rattle.definitions.specs.Lists.{Every}
 use Rattle.definitions.specs.Labelling.{placeOf}
-use Rattle.basics.specs.Tests.{Equal, equal, differ, equality}
+use Rattle.logic.specs.Tests.{Equal, equal, differ, equality}
 use Rattle.basics.specs.ListLaws.{Different}
 use Rattle.basics.specs.ListPlaces.{different-at, placeOf-at}
 

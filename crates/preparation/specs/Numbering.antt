@@ -20,7 +20,7 @@ use Rattle.definitions.specs.Lists.{upFrom}
 use Rattle.definitions.specs.Network.{Piece, sizeOf}
 use Rattle.definitions.specs.Blocks.{splits, splitsOf, Window, windows, windowsOf, Block, blockOf, blocksOf, blocks}
 use Rattle.definitions.specs.Judgement.{pieceAt, piecesOf}
-use Rattle.basics.specs.Tests.{split-at}
+use Rattle.logic.specs.Tests.{split-at}
 use Rattle.basics.specs.Sequences.{upFrom-snoc, getD-each, map-at}
 use Rattle.basics.specs.PiecePlaces.{piece-size}
 use Rattle.preparation.specs.Prepared.{sizeAt, Placement, place, piecePlacements, placementsUpTo, placementsOf, blocksUpTo, firstsOf}

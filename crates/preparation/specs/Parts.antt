@@ -22,14 +22,15 @@ use Rattle.definitions.specs.Lists.{all, every, total, upFrom, padded, Every}
 use Rattle.definitions.specs.Network.{noPiece}
 use Rattle.definitions.specs.Blocks.{splits, splitsOf, windows, windowsOf, noBlock, blockOf, blocks}
 use Rattle.definitions.specs.Judgement.{pieceAt, piecesOf}
-use Rattle.definitions.specs.HeapWords.{heapWords}
-use Rattle.basics.specs.Tests.{split-at}
-use Rattle.basics.specs.ListLaws.{all-at, every-is, every-at, length-padded}
+use Rattle.definitions.specs.Laws.Members.{every-is, all-at}
+use Rattle.logic.specs.Tests.{split-at}
+use Rattle.basics.specs.ListLaws.{every-at, length-padded}
 use Rattle.splits.specs.Windows.{Inside, windows-inside}
 use Rattle.monge.specs.Copies.{block-entry}
 use Rattle.monge.specs.Matrix.{at, reversedRow, reversed, rowsIn}
 use Rattle.basics.specs.Sequences.{getD-each, length-upFrom, map-at}
 use Rattle.basics.specs.PiecePlaces.{block-rows, block-cols, row-vertex, col-vertex}
+use Rattle.definitions.specs.HeapWords.{heapWords}
 use Rattle.preparation.specs.Prepared.{sizeAt, matrixRow, matrixOf, Placement, place, placementsOf, words, wordsOf, rowOf, colOf, lastOf, numbers, numbersFrom, partNumbers, partPlaces, pieceWords, maxWords, partsOf, slotIn, rowIn, colIn, colsIn, lastIn, rowCountIn, blocksUpTo}
 use Rattle.preparation.specs.Numbers.{length-numbers, words-append}
 use Rattle.preparation.specs.Placements.{size-small, length-upTo, blocks-few, length-windowsOf, words-few}

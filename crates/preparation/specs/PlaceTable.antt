@@ -17,7 +17,7 @@ use Rattle.definitions.specs.Limits.{maxVertices, maxPieces, rowPlaces}
 use Rattle.definitions.specs.Lists.{within}
 use Rattle.definitions.specs.Network.{sizeOf}
 use Rattle.definitions.specs.Judgement.{pieceAt}
-use Rattle.basics.specs.Tests.{and-left, below-suc, Truth, holds, fails, truth, Equal, equal, differ, equality}
+use Rattle.logic.specs.Tests.{and-left, below-suc, Truth, holds, fails, truth, Equal, equal, differ, equality}
 use Rattle.basics.specs.ListLaws.{Different}
 use Rattle.basics.specs.ListPlaces.{different-at}
 use Rattle.preparation.specs.Prepared.{sizeAt, placeCount, placeNumber, storePlace, storePlaces, placesUpTo, placesOf}

@@ -14,8 +14,8 @@ use lib.ListN.{getD, length, length-append, length-map}
 use Rattle.definitions.specs.Limits.{maxSize}
 use Rattle.definitions.specs.Lists.{all, total}
 use Rattle.definitions.specs.Blocks.{splits, splitsOf, Window, windows, windowsOf}
-use Rattle.basics.specs.Tests.{and-right, Truth, holds, fails, truth}
-use Rattle.basics.specs.ListLaws.{all-at}
+use Rattle.logic.specs.Tests.{and-right, Truth, holds, fails, truth}
+use Rattle.definitions.specs.Laws.Members.{all-at}
 use Rattle.splits.specs.Halving.{size-count}
 use Rattle.preparation.specs.Prepared.{sizeAt, place, piecePlacements, placementsUpTo, words, wordsOf, pieceBlocks, pieceWords, blocksUpTo}
 use Rattle.preparation.specs.Numbers.{length-windows, words-append}

@@ -16,8 +16,9 @@ use lib.ListN.{getD, length, length-append, List·getD-append}
 use lib.Seq.{getD-append-add}
 use Rattle.definitions.specs.Lists.{Every}
 use Rattle.definitions.specs.Blocks.{Split, splits, splitsOf, Window, windows, windowsOf}
-use Rattle.basics.specs.Tests.{Order, less, more, order}
-use Rattle.basics.specs.ListLaws.{every-at, every-append, every-imp}
+use Rattle.definitions.specs.Laws.Members.{every-imp}
+use Rattle.logic.specs.Tests.{Order, less, more, order}
+use Rattle.basics.specs.ListLaws.{every-at, every-append}
 use Rattle.preparation.specs.Numbers.{length-windows, windows-append}
 use Rattle.preparation.specs.Numbering.{noWindow}
 

@@ -15,8 +15,9 @@ use lib.Seq.{getD-append-add}
 use Rattle.definitions.specs.Limits.{maxSize}
 use Rattle.definitions.specs.Lists.{all, every, upFrom, within}
 use Rattle.definitions.specs.Blocks.{Split, splits, splitsOf, splitsUpTo, allSplits}
-use Rattle.basics.specs.Tests.{and-left, and-right, Order, less, more, order}
-use Rattle.basics.specs.ListLaws.{all-at, every-is, every-at}
+use Rattle.definitions.specs.Laws.Members.{every-is, all-at}
+use Rattle.logic.specs.Tests.{and-left, and-right, Order, less, more, order}
+use Rattle.basics.specs.ListLaws.{every-at}
 use Rattle.splits.specs.Table.{flattened, places, noSplit, threeAt, splitIn, firstSplit}
 
 -- a stretch of at least two places, its first half and the rest

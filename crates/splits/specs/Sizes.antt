@@ -14,8 +14,9 @@ use lib.ListN.{getD}
 use Rattle.definitions.specs.Limits.{maxSize}
 use Rattle.definitions.specs.Lists.{all, every, within}
 use Rattle.definitions.specs.Blocks.{Split, splits, splitsOf, splitsUpTo, allSplits}
-use Rattle.basics.specs.Tests.{and-left, and-right}
-use Rattle.basics.specs.ListLaws.{all-at, every-is, every-at}
+use Rattle.definitions.specs.Laws.Members.{every-is, all-at}
+use Rattle.logic.specs.Tests.{and-left, and-right}
+use Rattle.basics.specs.ListLaws.{every-at}
 use Rattle.splits.specs.declared.Split as code
 use Rattle.splits.specs.Table.{flattened, noSplit, splitOf, splitIn, firstSplit}
 use Rattle.splits.specs.Halving.{size-count, split-read, split-of}

@@ -14,8 +14,9 @@ use lib.Dec.{eqb, ltb, leb}
 use Rattle.definitions.specs.Limits.{maxSize}
 use Rattle.definitions.specs.Lists.{all, every, total, Every}
 use Rattle.definitions.specs.Blocks.{splits, splitsOf, Window, windows, windowsOf, logarithmFrom, logarithm}
-use Rattle.basics.specs.Tests.{and-left, and-right, Truth, holds, fails, truth}
-use Rattle.basics.specs.ListLaws.{all-at, every-is, Any}
+use Rattle.definitions.specs.Laws.Members.{every-is, all-at}
+use Rattle.logic.specs.Tests.{and-left, and-right, Truth, holds, fails, truth}
+use Rattle.basics.specs.ListLaws.{Any}
 
 -- the block has a row at place i and a column at place j
 unfoldable pub spans : ℕ → ℕ → Window → Bool

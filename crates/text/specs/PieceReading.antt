@@ -17,7 +17,7 @@ use lib.ListN.{length, take, drop, set, replicate, length-append, length-map}
 use lib.Seq.{drop-at}
 use borrow.Author.Tests.{le-leb}
 use Rattle.basics.specs.Buffers.{flatMap-snoc, put, put-padded, set-padded}
-use Rattle.basics.specs.ListLaws.{every-imp, every-snoc, length-padded, total-append}
+use Rattle.basics.specs.ListLaws.{every-snoc, length-padded, total-append}
 use Rattle.definitions.specs.Limits.{maxSize, sizePlaces, vertexPlaces, lengthPlaces, rowPlaces, tablePlaces}
 use Rattle.definitions.specs.Lists.{padded, total, within, Every}
 use Rattle.definitions.specs.Network.{Piece, sizeOf}
@@ -25,12 +25,14 @@ use Rattle.definitions.specs.Judgement.{judgeSize, judgeVertices, judgeBlocks}
 use Rattle.definitions.specs.Fields.{fieldBytes, fieldAt}
 use Rattle.definitions.specs.Reading.{refused, value, require, readField, readLine, lineBytes, readRows, readPiece, pieceBytes, readPieces}
 use Rattle.definitions.specs.Text.{sizesOf, verticesOf, tableOf, lengthsOf}
+use Rattle.definitions.specs.Laws.Members.{every-imp}
+use Rattle.definitions.specs.Laws.Causes.{size-in}
+use Rattle.definitions.specs.Laws.ReadLaws.{value-same, bind-value, require-value}
 use Rattle.judgements.specs.LentPieces.{judgeTable}
-use Rattle.basics.specs.Causes.{size-in}
 use Rattle.judgements.specs.PieceJudgement.{table-blocks}
 use Rattle.monge.specs.Matrix.{rowsIn}
 use Rattle.text.specs.Outcomes.{Came, RowsLeft}
-use Rattle.text.specs.ReadSteps.{after, after-after, after-none, value-same, bind-value, require-value, field-inside, field-in, judged, judged-stop, pieceOf, readSized, piece-stop, piece-go, vertices-stop, table-stop, table-go, pieces-go, pieces-stop}
+use Rattle.text.specs.ReadSteps.{after, after-after, after-none, field-inside, field-in, judged, judged-stop, pieceOf, readSized, piece-stop, piece-go, vertices-stop, table-stop, table-go, pieces-go, pieces-stop}
 use Rattle.text.specs.Padding.{padded-inner}
 use Rattle.text.specs.Returns.{came-out, came-go, came-judged}
 use Rattle.text.specs.RowReading.{rows-back, line-end-in}

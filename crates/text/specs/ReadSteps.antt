@@ -1,6 +1,5 @@
 -- Reading front to back, one step more: what a loop over fields, rows or pieces needs.
 --   after after-after                 what is read behind what is in hand
---   value-same bind-value require-value   a value that was read, taken apart
 --   Inside field-inside field-in fields-in   a field, and a line's fields, lie in the text
 --   fields-turn fields-stop           one field more
 --   line-go line-stop line-open       a line from its fields
@@ -17,11 +16,12 @@ use lib.Dec.{leb}
 use lib.ListN.{getD, length, take, set}
 use lib.Seq.{take-suc-set}
 use native.Mathlib.Numerals.{add-one}
-use Rattle.basics.specs.Tests.{Truth, holds, fails, truth}
+use Rattle.logic.specs.Tests.{Truth, holds, fails, truth}
 use Rattle.definitions.specs.Network.{Piece}
 use Rattle.definitions.specs.Judgement.{judgeSize, judgeVertices, judgeRow, judgeBlocks}
 use Rattle.definitions.specs.Fields.{lineEnd, fieldBytes, aField, noField, fieldAt, lengthAt}
 use Rattle.definitions.specs.Reading.{require, readRows, readPiece, pieceBytes, readPieces, FieldReading, Read, refused, value, _>>=_, readField, readFields, judgeLineEnd, readLine, lineBytes}
+use Rattle.definitions.specs.Laws.ReadLaws.{bind-value, require-value}
 
 -- what is in hand, and then what is read
 unfoldable pub after : {A : Type 0} → List A → Read (List A) → Read (List A)
@@ -38,19 +38,6 @@ pub after-none : {A : Type 0} (r : Read (List A)) → after [] r ≡ r
 unfolding after
 after-none (refused k) = refl
 after-none (value zs) = refl
-
--- ---- what was read, part by part
-
-pub value-same : {A : Type 0} (a b : A) → value a ≡ value b → a ≡ b
-value-same a b e = cc
-
-pub bind-value : {A B : Type 0} (r : Read A) (f : A → Read B) (b : B) → _>>=_ r f ≡ value b → (a : A) × (r ≡ value a) × (f a ≡ value b)
-bind-value (refused k) f b e = let z : _≡_ {A = ℕ} 0 1 = cc in absurd (omega arith)
-bind-value (value a) f b e = (a, refl, e)
-
-pub require-value : (k : ℕ) (u : Unit {0}) → require k ≡ value u → k ≡ 0
-require-value zero u e = refl
-require-value (suc k) u e = let z : _≡_ {A = ℕ} 0 1 = cc in absurd (omega arith)
 
 -- ---- fields, read in one way or the other
 

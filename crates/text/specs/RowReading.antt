@@ -12,7 +12,7 @@ use borrow.Author.Tests.{eqb-true}
 use lib.Dec.{eqb}
 use lib.ListN.{getD, length, take, drop, replicate, length-append, List·getD-eq-default}
 use lib.Seq.{take-at, drop-at}
-use Rattle.basics.specs.Tests.{Order, less, more, order, Truth, holds, fails, truth}
+use Rattle.logic.specs.Tests.{Order, less, more, order, Truth, holds, fails, truth}
 use Rattle.basics.specs.Buffers.{flatMap-snoc, put, put-padded}
 use Rattle.basics.specs.ListLaws.{every-snoc, length-padded}
 use Rattle.definitions.specs.Limits.{maxSize, rowPlaces, tablePlaces}

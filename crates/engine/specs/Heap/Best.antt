@@ -8,9 +8,8 @@ use native.Mathlib.Nat.{le-refl}
 use native.Mathlib.Omega.{arith}
 use Rattle.definitions.specs.Limits.{sum}
 use Rattle.definitions.specs.Best.{Best, nobody, by, leastFrom}
-use Rattle.basics.specs.Tests.{split-at}
-use Rattle.heap_laws.specs.Lesser.{from-is, beats-is}
-use Rattle.heap_laws.specs.Found.{Found, found-is}
+use Rattle.definitions.specs.Laws.LeastLaws.{Found, found-is}
+use Rattle.logic.specs.Tests.{split-at}
 
 -- of the lengths f from column `first` up to, not including, `end`
 pub record IsBest (f : ℕ → ℕ) (first end column : ℕ) : Type 0 where
@@ -57,9 +56,9 @@ best-is-row f p label first n r h = go (leastFrom (rowSums f p label) first n) (
     go (by k s) found =
         let q : by p (sum label (f k)) ≡ by (found .holder) s = found .here in
         let e : sum label (f k) ≡ s = cc in
-        let a : s ≤ sum label (f r) = from-is s p (sum label (f r)) (rowSums f p label r) (found .no-less r (h .low) (h .high)) refl in
+        let a : s ≤ sum label (f r) = found .no-less r p (sum label (f r)) (h .low) (h .high) refl in
         let b : f r ≤ f k = h .no-less k (found .low) (found .high) in
         let up : k < r → ⊥ = λ l. omega (arith, h .no-lower k (found .low) l) in
-        let down : r < k → ⊥ = λ l. omega (arith, beats-is s p (sum label (f r)) (rowSums f p label r) (found .no-lower r (h .low) l) refl) in
+        let down : r < k → ⊥ = λ l. omega (arith, found .no-lower r p (sum label (f r)) (h .low) l refl) in
         let same : k ≡ r = ⊎-elim (λ (l : k < r). absurd (up l)) (λ (l : r ≤ k). ⊎-elim (λ (m : r < k). absurd (down m)) (λ (m : k ≤ r). omega arith) (split-at r k)) (split-at k r) in
         rw (← e, same)

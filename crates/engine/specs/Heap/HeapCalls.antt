@@ -23,13 +23,13 @@ use Rattle.definitions.specs.Model.{Activation, Model, available, isActivated, 
 use Rattle.definitions.specs.Labelling.{activation, extraction}
 use Rattle.definitions.specs.HeapWords.{countWord, markWord, headWords, heapWords, countOf, markOf, firstAt, lastAt, span, kept}
 use Rattle.definitions.specs.HeldModel.{lentEntry, mark, Holds}
+use Rattle.definitions.specs.Laws.RunProofs.{tag, runs-length}
 use Rattle.definitions.specs.declared.Extraction.{Extraction}
 use Rattle.definitions.specs.declared.Extraction.the-variants.{Column, Nothing}
 use Rattle.basics.specs.ListLaws.{every-snoc}
 use Rattle.heap_laws.specs.ModelCalls.{Activates, step-activate, step-extract}
 use Rattle.heap_laws.specs.Won.{won, won-between, Range}
 use Rattle.heap_laws.specs.Sound.{reached-step}
-use Rattle.heap_laws.specs.Runs.{tag, runs-length}
 use Rattle.heap_laws.specs.Counting.{countNew-same, runs-distinct, balance}
 use Rattle.heap_laws.specs.Edits.{before, from, cutAt}
 use Rattle.heap_laws.specs.ColumnParents.{lookup-available, won-outside}

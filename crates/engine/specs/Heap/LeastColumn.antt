@@ -10,14 +10,14 @@ use Prim.Native.Nat.{ℕ, zero, suc, _+_, _-_, _≤_, _<_}
 use native.Mathlib.Nat.{le-refl, zero-add, add-zero, suc-add, add-suc}
 use native.Mathlib.Omega.{arith}
 use lib.ListN.{getD}
-use Rattle.definitions.specs.Limits.{below}
-use Rattle.definitions.specs.Best.{Best, nobody, by, lesser, placed, leastFrom}
-use Rattle.definitions.specs.Model.{Model, available}
 use Rattle.definitions.specs.HeapWords.{countOf, parentAt, firstAt, lastAt}
 use Rattle.definitions.specs.HeldModel.{lentEntry, Holds}
-use Rattle.basics.specs.Tests.{split-at, Order, less, more, order}
+use Rattle.definitions.specs.Limits.{below}
+use Rattle.definitions.specs.Best.{Best, nobody, by, lesser, placed, leastFrom}
+use Rattle.definitions.specs.Laws.LeastLaws.{leastFrom-same}
+use Rattle.definitions.specs.Model.{Model, available}
+use Rattle.logic.specs.Tests.{split-at, Order, less, more, order}
 use Rattle.heap_laws.specs.Lesser.{lesser-nobody, lesser-assoc}
-use Rattle.heap_laws.specs.Found.{leastFrom-same}
 use Rattle.engine.specs.declared.heap.Lowest.{Lowest}
 use Rattle.engine.specs.declared.heap.Lowest.the-variants.{At, Nothing}
 use Rattle.engine.specs.Heap.Search.{sumAt, In}

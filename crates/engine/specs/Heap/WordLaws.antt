@@ -13,10 +13,10 @@ use native.Mathlib.Nat.{zero-add, add-zero}
 use native.Mathlib.Omega.{arith}
 use lib.ListN.{length, getD, set}
 use lib.Seq.{getD-set-other, sets, length-sets}
+use Rattle.definitions.specs.HeapWords.{countOf, markOf, parentAt, firstAt, lastAt, intervalAt, span, countWord, markWord, headWords, parentWord, firstWord, lastWord, intervalWords, intervalStart, heapWords}
 use Rattle.definitions.specs.Intervals.{Interval, interval}
 use Rattle.definitions.specs.Entries.{intervalNumbers}
-use Rattle.definitions.specs.HeapWords.{countWord, markWord, headWords, parentWord, firstWord, lastWord, intervalWords, intervalStart, heapWords, countOf, markOf, parentAt, firstAt, lastAt, intervalAt, span}
-use Rattle.basics.specs.Tests.{split-at, Equal, equal, differ, equality}
+use Rattle.logic.specs.Tests.{split-at, Equal, equal, differ, equality}
 use Rattle.engine.specs.Strides.{sets-before, stored-here, stored-other}
 use Rattle.engine.specs.declared.heap.Interval as declared
 

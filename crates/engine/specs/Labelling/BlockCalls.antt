@@ -12,18 +12,18 @@ use native.Mathlib.Nat.{le-refl}
 use native.Mathlib.Omega.{arith}
 use lib.ListN.{getD, length, set, take, drop, length-map, List·getD-map}
 use lib.Seq.{getD-take, getD-drop, getD-set-same, getD-set-other, map-set-same}
+use Rattle.definitions.specs.HeldModel.{lentEntry, Holds}
 use Rattle.definitions.specs.declared.Extraction.{Extraction}
 use Rattle.definitions.specs.Lists.{mem}
 use Rattle.definitions.specs.Network.{Rectangle}
 use Rattle.definitions.specs.Blocks.{Block, noBlock}
 use Rattle.definitions.specs.Best.{Best, nobody, by, lesser, leastFrom}
+use Rattle.definitions.specs.Laws.LeastLaws.{LowestFrom, Found, found-is}
 use Rattle.definitions.specs.Model.{Activation, Model, through, parent, available, judge, activate, extract, extractionOf, Call, Trace, extend}
 use Rattle.definitions.specs.Labelling.{BlockState, noBlockState, activation, extraction, apply, leastOf}
-use Rattle.definitions.specs.HeldModel.{lentEntry, Holds}
-use Rattle.basics.specs.Tests.{Truth, holds, fails, truth, Equal, equal, differ, equality}
-use Rattle.heap_laws.specs.Lesser.{UpTo, upTo-lesser, from-is, upTo-is}
+use Rattle.logic.specs.Tests.{Truth, holds, fails, truth, Equal, equal, differ, equality}
+use Rattle.heap_laws.specs.Lesser.{UpTo, upTo-lesser, upTo-is}
 use Rattle.heap_laws.specs.Parents.{parent-snoc}
-use Rattle.heap_laws.specs.Found.{Found, Lowest, found-is}
 use Rattle.heap_laws.specs.ModelCalls.{Activates, Cases, activates, extracts, refuses, cases, step-activate, step-extract}
 use Rattle.heap_laws.specs.Agree.{leastFrom-agree, extend-agree}
 use Rattle.preparation.specs.Prepared.{rowIn, colIn, colsIn, rowCountIn}
@@ -54,7 +54,7 @@ module _ (e : Rectangle) (m : Model) (r v : ℕ) where
   least-falls : (cols c s : ℕ) → leastFrom (available e m) 0 cols ≡ by c s → UpTo s (leastFrom (available e (activate m r v)) 0 cols)
   least-falls cols c s h = go (leastFrom (available e (activate m r v)) 0 cols) (found-is (available e (activate m r v)) 0 cols)
     where
-      old : Lowest (available e m) 0 cols c s
+      old : LowestFrom (available e m) 0 cols c s
       old = rw h at (found-is (available e m) 0 cols)
 
       low : UpTo s (available e (activate m r v) c)
@@ -64,7 +64,7 @@ module _ (e : Rectangle) (m : Model) (r v : ℕ) where
       go nobody f = rw (f c (old .low) (old .high)) at low
       go (by d t) f =
           let u = upTo-is s (available e (activate m r v) c) low in
-          omega (arith, u .3, from-is t (u .0) (u .1) (available e (activate m r v) c) (f .no-less c (old .low) (old .high)) (u .2))
+          omega (arith, u .3, f .no-less c (u .0) (u .1) (old .low) (old .high) (u .2))
 
 -- an activation that is not refused
 pub accepted-is : (rows : ℕ) (m : Model) (r v : ℕ) → judge rows m (activation r v) ≡ 0 → Activates rows m (activation r v)

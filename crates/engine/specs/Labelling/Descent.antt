@@ -15,7 +15,7 @@ use Rattle.definitions.specs.Limits.{maxSize}
 use Rattle.definitions.specs.Network.{Piece, sizeOf}
 use Rattle.definitions.specs.Blocks.{Window, windowsOf, blockOf}
 use Rattle.definitions.specs.Labelling.{BlockState, activation, apply, placeOf, activateVertex, noBlockState}
-use Rattle.basics.specs.Tests.{split-at, Equal, equal, differ, equality}
+use Rattle.logic.specs.Tests.{split-at, Equal, equal, differ, equality}
 use Rattle.basics.specs.ListLaws.{Different, every-at}
 use Rattle.splits.specs.Windows.{Inside, windows-inside}
 use Rattle.preparation.specs.Placements.{length-windowsOf}

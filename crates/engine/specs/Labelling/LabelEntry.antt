@@ -10,17 +10,18 @@ use Prim.Native.Nat.{ℕ, zero, suc, _+_, _≤_, _<_}
 use native.Mathlib.Omega.{arith}
 use borrow.Author.Tests.{eq-eqb, ne-eqb, eqb-true}
 use lib.ListN.{getD, length, replicate, length-replicate}
+use Rattle.definitions.specs.declared.LabelAnswer.{LabelAnswer}
+use Rattle.definitions.specs.Entries.{judgeLent, hasPlaces, judgeBuffers, AfterLabel, judgeLabelling, labelAnswer, labelRefusal, labelNetwork}
+use Rattle.definitions.specs.PlainPromises.{PlainLabels}
 use Rattle.definitions.specs.Limits.{maxSize, sizePlaces, vertexPlaces, lengthPlaces, labelPlaces, unreached}
 use Rattle.definitions.specs.Lists.{firstCause, Every}
 use Rattle.definitions.specs.Network.{Piece}
 use Rattle.definitions.specs.Blocks.{blocks}
 use Rattle.definitions.specs.Labelling.{labelling, labels}
 use Rattle.definitions.specs.Judgement.{judgeBounds, judgeSource, judgePiece, pieceAt, piecesOf, judgeFrom, judgeNetwork}
-use Rattle.definitions.specs.Entries.{hasPlaces, judgeBuffers, AfterLabel, judgeLabelling, labelAnswer, labelRefusal, labelNetwork, judgeLent}
-use Rattle.definitions.specs.PlainPromises.{PlainLabels}
-use Rattle.definitions.specs.declared.LabelAnswer.{LabelAnswer}
-use Rattle.basics.specs.Tests.{split-at, Equal, equal, differ, equality}
-use Rattle.basics.specs.Causes.{passed, no-cause, test-holds, bounds-in, buffers-are}
+use Rattle.definitions.specs.Laws.Causes.{passed, no-cause, test-holds, bounds-in}
+use Rattle.basics.specs.Buffers.{buffers-are}
+use Rattle.logic.specs.Tests.{split-at, Equal, equal, differ, equality}
 use Rattle.preparation.specs.Prepared.{matrixOf, tablesOf, maxWords}
 use Rattle.preparation.specs.Numbering.{Fits}
 use Rattle.labelling_laws.specs.Acceptance.{Accepted, size-passes, suits}

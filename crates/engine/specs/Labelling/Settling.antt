@@ -13,7 +13,7 @@ use Rattle.definitions.specs.Limits.{maxSize}
 use Rattle.definitions.specs.Network.{Piece, sizeOf}
 use Rattle.definitions.specs.Blocks.{windowsOf, blockOf}
 use Rattle.definitions.specs.Labelling.{BlockState, placeOf, activateVertex, noBlockState}
-use Rattle.basics.specs.Tests.{split-at}
+use Rattle.logic.specs.Tests.{split-at}
 use Rattle.basics.specs.ListLaws.{every-at}
 use Rattle.splits.specs.Windows.{Inside, windows-inside}
 use Rattle.preparation.specs.Placements.{length-windowsOf}

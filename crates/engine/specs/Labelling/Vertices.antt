@@ -19,7 +19,7 @@ use Rattle.definitions.specs.Network.{Piece, sizeOf, noPiece}
 use Rattle.definitions.specs.Blocks.{windowsOf, Block, noBlock, blockOf, blocks}
 use Rattle.definitions.specs.Model.{isActivated}
 use Rattle.definitions.specs.Labelling.{BlockState, placeOf, activateVertex, noBlockState}
-use Rattle.basics.specs.Tests.{split-at}
+use Rattle.logic.specs.Tests.{split-at}
 use Rattle.basics.specs.ListLaws.{every-at}
 use Rattle.splits.specs.Windows.{Inside, windows-inside}
 use Rattle.basics.specs.PiecePlaces.{block-rows}

@@ -2,12 +2,12 @@
 use mathlib.Core.Path.{_≡_, refl, sym, ap, _∙_}
 use mathlib.Core.List.{List}
 use Prim.Native.Nat.{ℕ}
+use Rattle.definitions.specs.PlainPromises.{PlainSession}
 use Rattle.definitions.specs.declared.SessionAnswer.{SessionAnswer}
 use Rattle.definitions.specs.Lists.{padded}
 use Rattle.definitions.specs.Model.{Call, trace}
 use Rattle.definitions.specs.Entries.{AfterSession, rectangleOf, judgeSession, callsOf, answersOf, answersIn, session}
-use Rattle.definitions.specs.PlainPromises.{PlainSession}
-use Rattle.basics.specs.Tests.{Equal, equal, differ, equality}
+use Rattle.logic.specs.Tests.{Equal, equal, differ, equality}
 use Rattle.heap_laws.specs.AllCalls.{trace-each, trace-allowed, trace-extractions}
 use Rattle.heap_laws.specs.HeapTheorems.{intervals-once, inserted-removed-kept}
 use Rattle.engine.specs.Session.Judged.{accepted}

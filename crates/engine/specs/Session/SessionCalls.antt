@@ -14,6 +14,8 @@ use borrow.Author.Tests.{eq-eqb, ne-eqb, eqb-true, leb-false}
 use lib.Dec.{eqb, ltb, leb}
 use lib.ListN.{length, getD, set}
 use lib.Seq.{getD-set-same, getD-set-other}
+use Rattle.definitions.specs.HeldModel.{lentEntry}
+use Rattle.definitions.specs.CallChains.{SessionHolds, stepOf, answerIn, Steps}
 use Rattle.definitions.specs.declared.Extraction.the-variants.{Column, Nothing}
 use Rattle.definitions.specs.Limits.{maxLabel, unreached}
 use Rattle.definitions.specs.Lists.{Every}
@@ -21,9 +23,7 @@ use Rattle.definitions.specs.Best.{Best, nobody, by, leastFrom}
 use Rattle.definitions.specs.Intervals.{countNew}
 use Rattle.definitions.specs.Model.{Activation, Model, activate, extract, available, extractionOf, answerOf, isActivated, intervals, Call, Answer, judge}
 use Rattle.definitions.specs.Labelling.{activation}
-use Rattle.definitions.specs.HeldModel.{lentEntry}
-use Rattle.definitions.specs.CallChains.{SessionHolds, stepOf, answerIn, Steps}
-use Rattle.basics.specs.Tests.{clash, or-left, or-right, Truth, holds, fails, truth}
+use Rattle.logic.specs.Tests.{clash, or-left, or-right, Truth, holds, fails, truth}
 use Rattle.heap_laws.specs.ModelCalls.{Activates, Cases, activates, extracts, refuses, cases, step-activate, step-extract, step-refused}
 use Rattle.heap_laws.specs.Parents.{isActivated-snoc}
 use Rattle.heap_laws.specs.Counting.{countNew-same}

@@ -14,9 +14,9 @@ use Rattle.definitions.specs.Network.{sizeOf}
 use Rattle.definitions.specs.Blocks.{windowsOf}
 use Rattle.definitions.specs.Judgement.{judgeSize, judgeBlocks}
 use Rattle.definitions.specs.Entries.{hasPlaces}
+use Rattle.definitions.specs.Laws.Causes.{refused, passed, last, size-in}
 use Rattle.monge.specs.Matrix.{reversed}
 use Rattle.basics.specs.Sequences.{length-upFrom}
-use Rattle.basics.specs.Causes.{refused, passed, last, size-in}
 use Rattle.judgements.specs.LentPieces.{tableIn, judgeTable}
 use Rattle.judgements.specs.PieceJudgement.{passesIn, blocks-windows}
 use Rattle.judgements.proofs.judge_blocks.Statement.{statement}

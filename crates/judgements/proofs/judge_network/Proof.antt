@@ -7,7 +7,8 @@ use borrow.Author.Needs.{needs}
 use lib.ListN.{length}
 use Rattle.definitions.specs.Judgement.{judgeBounds, judgeFrom, judgeNetwork}
 use Rattle.definitions.specs.Entries.{judgeBuffers, judgeLent}
-use Rattle.basics.specs.Causes.{refused, passed, last, bounds-in, buffers-are}
+use Rattle.definitions.specs.Laws.Causes.{refused, passed, last, bounds-in}
+use Rattle.basics.specs.Buffers.{buffers-are}
 use Rattle.judgements.proofs.judge_network.Statement.{statement}
 use Rattle.judgements.proofs.judge_network.Tie as tie
 

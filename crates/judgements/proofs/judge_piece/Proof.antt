@@ -14,8 +14,8 @@ use Rattle.definitions.specs.Limits.{rowPlaces, tablePlaces}
 use Rattle.definitions.specs.Network.{sizeOf}
 use Rattle.definitions.specs.Judgement.{judgeSize, judgeVertices, judgeRows, judgePiece}
 use Rattle.definitions.specs.Entries.{hasPlaces}
+use Rattle.definitions.specs.Laws.Causes.{refused, passed, last, size-in}
 use Rattle.monge.specs.Matrix.{rowsIn}
-use Rattle.basics.specs.Causes.{refused, passed, last, size-in}
 use Rattle.judgements.specs.LentPieces.{pieceIn, judgePieceIn, judgeTable}
 use Rattle.judgements.specs.PieceJudgement.{table-blocks}
 use Rattle.judgements.proofs.judge_piece.Statement.{statement}

@@ -14,7 +14,7 @@ use Rattle.definitions.specs.Limits.{rowPlaces, tablePlaces}
 use Rattle.definitions.specs.Lists.{firstCause}
 use Rattle.definitions.specs.Judgement.{judgePiece, judgeFrom, pieceAt}
 use Rattle.definitions.specs.Entries.{hasPlaces}
-use Rattle.basics.specs.Causes.{refused, passed, last}
+use Rattle.definitions.specs.Laws.Causes.{refused, passed, last}
 use Rattle.judgements.specs.LentPieces.{judgePieceIn}
 use Rattle.judgements.specs.PieceJudgement.{piece-lent}
 use Rattle.judgements.proofs.judge_pieces.Statement.{statement}

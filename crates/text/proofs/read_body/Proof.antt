@@ -2,7 +2,7 @@
 use mathlib.Core.Path.{_≡_, sym, _∙_}
 use borrow.Author.Needs.{needs}
 use Rattle.definitions.specs.Judgement.{judgeBounds}
-use Rattle.basics.specs.Causes.{bounds-in}
+use Rattle.definitions.specs.Laws.Causes.{bounds-in}
 use Rattle.text.specs.Plans.{body-bounds, body-pieces, body-question, body-done}
 use Rattle.text.proofs.read_body.Statement.{statement}
 use Rattle.text.proofs.read_body.Tie as tie

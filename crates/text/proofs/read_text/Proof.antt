@@ -4,7 +4,7 @@ use mathlib.Core.List.{List}
 use Prim.Native.Nat.{ℕ}
 use lib.ListN.{length, replicate, length-replicate}
 use Rattle.definitions.specs.Entries.{judgeBuffers}
-use Rattle.basics.specs.Causes.{buffers-are}
+use Rattle.basics.specs.Buffers.{buffers-are}
 use Rattle.text.specs.PieceReading.{held-none}
 use Rattle.text.specs.Plans.{after-buffers, after-long, after-done, after-out}
 use borrow.Author.Needs.{needs}

@@ -1,0 +1,17 @@
+-- The proofs of the laws that stand beside the definitions: what those that are made for computing come to. Nothing here has to be believed.
+--   MongeLaws                                 of `passes` in the file Blocks
+--   LeastLaws                                 of `leastLeft` in the file Model
+--   RunProofs RunLaws                         of `intervals` in the file Model
+--   FieldProofs FieldBack LineProofs LineBack of `readPlan` in the file Text: from a text to its plan, and back; for one field, for all lines
+--   Members Causes ReadLaws                   parts of these: members of lists, causes that are 0, what was read taken apart
+pub mod Members
+pub mod Causes
+pub mod MongeLaws
+pub mod LeastLaws
+pub mod RunProofs
+pub mod RunLaws
+pub mod ReadLaws
+pub mod FieldProofs
+pub mod FieldBack
+pub mod LineProofs
+pub mod LineBack

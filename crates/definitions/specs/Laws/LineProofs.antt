@@ -1,0 +1,290 @@
+-- From a text that was read to its lines, and to a plan that no cause turns away: half of `accepted-exactly` in the file Text.
+--   Stands                    bytes from a place of the text on, and the rest of the text behind them
+--   field-at .. line-written  fields and lines that were read stand there as they are written
+--   rows-read .. body-read    so do rows, pieces and all that follows the first line, and they have been judged
+--   text-read                 the whole text
+use mathlib.Core.Path.{_≡_, refl, sym, ap, _∙_, subst}
+use mathlib.Core.List.{List, [], _∷_, _++_, map, flatMap, append-assoc, append-nil}
+use mathlib.Core.Logic.{⊎-elim}
+use Prim.Native.Nat.{ℕ, zero, suc, _+_, _*_, _≤_, _<_}
+use native.Mathlib.Omega.{arith}
+use borrow.Author.Tests.{leb-true, eqb-true}
+use lib.Dec.{eqb, leb}
+use lib.ListN.{getD, length, take, drop, length-drop, take-append-drop, drop-of-length-le, List·getD-eq-default}
+use lib.Seq.{length-take-le, drop-cons, drop-drop}
+use Rattle.logic.specs.Tests.{Truth, holds, fails, truth, split-at}
+use Rattle.definitions.specs.Lists.{Every, total, firstCause}
+use Rattle.definitions.specs.Network.{Piece, sizeOf}
+use Rattle.definitions.specs.Judgement.{judgeBounds, judgeSize, judgeVertices, judgeRow, judgeRows, judgeBlocks, judgePiece, judgeSource}
+use Rattle.definitions.specs.Fields.{lineEnd, fieldBytes, FieldAnswer, aField, noField, fieldAt, lengthAt, decimal, rightJustified}
+use Rattle.definitions.specs.Reading.{FieldReading, value, require, readField, readFields, judgeLineEnd, readLine, lineBytes, readRows, readPiece, pieceBytes, readPieces, Plan, judgeEnd, readBody, readPlan}
+use Rattle.definitions.specs.Written.{writtenField, writtenLine, writtenPiece, written, SoundPiece, SoundPlan}
+use Rattle.definitions.specs.Laws.ReadLaws.{value-same, bind-value, require-value, field-value, line-length}
+use Rattle.definitions.specs.Laws.FieldProofs.{field-written}
+
+-- ---- what was read from a place on
+
+-- the text from a place on: so many bytes, which are these, and then the text from behind them on
+abbrev Stands : List ℕ → ℕ → ℕ → List ℕ → Type 0
+Stands text at size bytes = drop at text ≡ bytes ++ drop (at + size) text
+
+-- nothing; one part behind the other
+stands-none : (text : List ℕ) (at : ℕ) → Stands text at 0 []
+stands-none text at = let z : at + 0 ≡ at = omega arith in rw z
+
+stands-both : (text : List ℕ) (at a b : ℕ) (xs ys : List ℕ) → Stands text at a xs → Stands text (at + a) b ys → Stands text at (a + b) (xs ++ ys)
+stands-both text at a b xs ys h k =
+    let z : at + a + b ≡ at + (a + b) = omega arith in
+    h ∙ rw (k, z) (sym (append-assoc xs ys (drop (at + (a + b)) text)))
+
+field-at : (text : List ℕ) (at x : ℕ) → fieldAt text at ≡ aField x → Stands text at fieldBytes (writtenField x)
+unfolding fieldAt writtenField
+field-at text at x e = go (truth (leb (at + fieldBytes) (length text)))
+  where
+    six : List ℕ
+    six = take fieldBytes (drop at text)
+
+    go : Truth (leb (at + fieldBytes) (length text)) → drop at text ≡ rightJustified fieldBytes (decimal x) ++ drop (at + fieldBytes) text
+    go (holds t) =
+        let inside = leb-true (at + fieldBytes) (length text) t in
+        let long : length six ≡ fieldBytes = length-take-le fieldBytes (drop at text) (simp length-drop (omega arith)) in
+        let is : six ≡ rightJustified fieldBytes (decimal x) = rw long at (field-written six x (omega arith) (simp t at e)) in
+        rw (← is, ← drop-drop fieldBytes at text) (sym (take-append-drop fieldBytes (drop at text)))
+    go (fails t) =
+        let a : noField ≡ aField x = simp t at e in
+        let z : _≡_ {A = ℕ} 3 0 = ap (λ (f : FieldAnswer). f .number) a in
+        absurd (omega arith)
+
+-- both readings of a field
+abbrev pub Reads : FieldReading → Type 0
+Reads field = (text : List ℕ) (at : ℕ) → field text at ≡ fieldAt text at
+
+pub length-reads : Reads lengthAt
+unfolding lengthAt
+length-reads text at = refl
+
+read-field-written : (field : FieldReading) → Reads field → (text : List ℕ) (at x : ℕ) → readField field text at ≡ value x → Stands text at fieldBytes (writtenField x)
+read-field-written field same text at x e = field-at text at x (sym (same text at) ∙ field-value field text at x e)
+
+fields-written : (field : FieldReading) → Reads field → (text : List ℕ) (at k : ℕ) (xs : List ℕ) → readFields field text at k ≡ value xs → Stands text at (fieldBytes * k) (flatMap writtenField xs)
+unfolding readFields flatMap
+fields-written field same text at zero xs e = rw (← value-same [] xs e) (stands-none text at)
+fields-written field same text at (suc k) xs e =
+    let a = bind-value (readField field text at) _ xs e in
+    let b = bind-value (readFields field text (at + fieldBytes) k) _ xs (a .2) in
+    let x = a .0 in
+    let rest = b .0 in
+    let one = read-field-written field same text at x (a .1) in
+    let more = fields-written field same text (at + fieldBytes) k rest (b .1) in
+    let z : fieldBytes + fieldBytes * k ≡ fieldBytes * suc k = omega arith in
+    rw (← value-same (x ∷ rest) xs (b .2), ← z) (stands-both text at fieldBytes (fieldBytes * k) (writtenField x) (flatMap writtenField rest) one more)
+
+end-written : (text : List ℕ) (at : ℕ) → judgeLineEnd text at ≡ 0 → Stands text at 1 (lineEnd ∷ [])
+unfolding judgeLineEnd
+end-written text at e = go (truth (eqb (getD text at 0) lineEnd))
+  where
+    go : Truth (eqb (getD text at 0) lineEnd) → Stands text at 1 (lineEnd ∷ [])
+    go (holds t) =
+        let is : getD text at 0 ≡ lineEnd = eqb-true (getD text at 0) lineEnd t in
+        let inside : at < length text = ⊎-elim (λ (h : at < length text). h) (λ (h : length text ≤ at). absurd (omega (arith, List·getD-eq-default text 0 {n = at} h))) (split-at at (length text)) in
+        let z : suc at ≡ at + 1 = omega arith in
+        drop-cons text at 0 inside ∙ rw (is, z)
+    go (fails t) = let bad : _≡_ {A = ℕ} 3 0 = simp t at e in absurd (omega arith)
+
+line-written : (field : FieldReading) → Reads field → (text : List ℕ) (at k : ℕ) (xs : List ℕ) → readLine field text at k ≡ value xs → Stands text at (lineBytes k) (writtenLine xs)
+unfolding readLine writtenLine
+line-written field same text at k xs e =
+    let a = bind-value (readFields field text at k) _ xs e in
+    let b = bind-value (require (judgeLineEnd text (at + fieldBytes * k))) _ xs (a .2) in
+    let end = require-value (judgeLineEnd text (at + fieldBytes * k)) (b .0) (b .1) in
+    rw (← value-same (a .0) xs (b .2)) (stands-both text at (fieldBytes * k) 1 (flatMap writtenField (a .0)) (lineEnd ∷ []) (fields-written field same text at k (a .0) (a .1)) (end-written text (at + fieldBytes * k) end))
+
+-- ---- rows
+
+-- k rows of m lengths, the first of them row i: they stand there, and each was judged
+record RowsRead (text : List ℕ) (at m i k : ℕ) (rows : List (List ℕ)) : Type 0 where
+  stands : Stands text at (k * lineBytes m) (flatMap writtenLine rows)
+  count : length rows ≡ k
+  wide : Every (λ row. length row ≡ m) rows
+  judged : judgeRows i rows ≡ 0
+
+no-rows : (text : List ℕ) (at m i : ℕ) → RowsRead text at m i 0 []
+unfolding judgeRows flatMap
+no-rows text at m i = record { stands = let z : 0 * lineBytes m ≡ 0 = omega arith in rw z (stands-none text at); count = refl; wide = tt; judged = refl }
+
+row-more : (text : List ℕ) (at m i k : ℕ) (row : List ℕ) (rows : List (List ℕ)) → Stands text at (lineBytes m) (writtenLine row) → length row ≡ m → judgeRow i row ≡ 0
+    → RowsRead text (at + lineBytes m) m (suc i) k rows → RowsRead text at m i (suc k) (row ∷ rows)
+unfolding judgeRows firstCause flatMap
+row-more text at m i k row rows line long ok r = record {
+  stands =
+      let z : lineBytes m + k * lineBytes m ≡ suc k * lineBytes m = omega arith in
+      rw (← z) (stands-both text at (lineBytes m) (k * lineBytes m) (writtenLine row) (flatMap writtenLine rows) line (r .stands));
+  count = ap suc (r .count);
+  wide = (long, r .wide);
+  judged = rw (ok, r .judged);
+}
+
+rows-read : (text : List ℕ) (at m i k : ℕ) (rows : List (List ℕ)) → readRows text at m i k ≡ value rows → RowsRead text at m i k rows
+unfolding readRows
+rows-read text at m i zero rows e = subst (RowsRead text at m i 0) (value-same [] rows e) (no-rows text at m i)
+rows-read text at m i (suc k) rows e =
+    let a = bind-value (readLine lengthAt text at m) _ rows e in
+    let row = a .0 in
+    let b = bind-value (require (judgeRow i row)) _ rows (a .2) in
+    let c = bind-value (readRows text (at + lineBytes m) m (suc i) k) _ rows (b .2) in
+    subst (RowsRead text at m i (suc k)) (value-same (row ∷ c .0) rows (c .2))
+    (row-more text at m i k row (c .0)
+    (line-written lengthAt length-reads text at m row (a .1))
+    (line-length lengthAt text at m row (a .1))
+    (require-value (judgeRow i row) (b .0) (b .1))
+    (rows-read text (at + lineBytes m) m (suc i) k (c .0) (c .1)))
+
+-- ---- a piece
+
+record PieceRead (text : List ℕ) (n at : ℕ) (q : Piece) : Type 0 where
+  stands : Stands text at (pieceBytes q) (writtenPiece q)
+  sound : SoundPiece n q
+
+-- the size is the first field of the line of the vertices
+sized-line : (m : ℕ) (xs : List ℕ) → writtenField m ++ writtenLine xs ≡ writtenLine (m ∷ xs)
+unfolding writtenLine flatMap
+sized-line m xs = sym (append-assoc (writtenField m) (flatMap writtenField xs) (lineEnd ∷ []))
+
+module _ (text : List ℕ) (n at m : ℕ) (vertices : List ℕ) (rows : List (List ℕ)) where
+  abbrev made : Piece
+  made = record { vertices = vertices; rows = rows }
+
+  piece-made : length vertices ≡ m → Stands text at fieldBytes (writtenField m) → Stands text (at + fieldBytes) (lineBytes m) (writtenLine vertices)
+      → judgeSize m ≡ 0 → judgeVertices n vertices ≡ 0 → RowsRead text (at + lineBytes (suc m)) m 0 m rows → judgeBlocks made ≡ 0 → PieceRead text n at made
+  unfolding judgePiece firstCause sizeOf pieceBytes writtenPiece
+  piece-made long size line size-in vertices-in r blocks =
+      let z : fieldBytes + lineBytes m ≡ lineBytes (suc m) = omega arith in
+      let first : Stands text at (lineBytes (suc m)) (writtenLine (m ∷ vertices)) = rw (z, sized-line m vertices) at (stands-both text at fieldBytes (lineBytes m) (writtenField m) (writtenLine vertices) size line) in
+      record {
+        stands = rw long (stands-both text at (lineBytes (suc m)) (m * lineBytes m) (writtenLine (m ∷ vertices)) (flatMap writtenLine rows) first (r .stands));
+        sound = record { tall = r .count ∙ sym long; wide = rw long (r .wide); judgement = rw (long, size-in, vertices-in, r .judged, blocks) };
+      }
+
+piece-read : (text : List ℕ) (n at : ℕ) (q : Piece) → readPiece text n at ≡ value q → PieceRead text n at q
+unfolding readPiece
+piece-read text n at q e =
+    let a = bind-value (readField fieldAt text at) _ q e in
+    let m = a .0 in
+    let b = bind-value (require (judgeSize m)) _ q (a .2) in
+    let c = bind-value (readLine fieldAt text (at + fieldBytes) m) _ q (b .2) in
+    let vertices = c .0 in
+    let d = bind-value (require (judgeVertices n vertices)) _ q (c .2) in
+    let f = bind-value (readRows text (at + lineBytes (suc m)) m 0 m) _ q (d .2) in
+    let rows = f .0 in
+    let g = bind-value (require (judgeBlocks (record { vertices = vertices; rows = rows }))) _ q (f .2) in
+    subst (PieceRead text n at) (value-same (record { vertices = vertices; rows = rows }) q (g .2))
+    (piece-made text n at m vertices rows
+    (line-length fieldAt text (at + fieldBytes) m vertices (c .1))
+    (read-field-written fieldAt (λ t i. refl) text at m (a .1))
+    (line-written fieldAt (λ t i. refl) text (at + fieldBytes) m vertices (c .1))
+    (require-value (judgeSize m) (b .0) (b .1))
+    (require-value (judgeVertices n vertices) (d .0) (d .1))
+    (rows-read text (at + lineBytes (suc m)) m 0 m rows (f .1))
+    (require-value (judgeBlocks (record { vertices = vertices; rows = rows })) (g .0) (g .1)))
+
+-- ---- pieces
+
+record PiecesRead (text : List ℕ) (n at p : ℕ) (qs : List Piece) : Type 0 where
+  stands : Stands text at (total (map pieceBytes qs)) (flatMap writtenPiece qs)
+  count : length qs ≡ p
+  each : Every (SoundPiece n) qs
+
+no-pieces : (text : List ℕ) (n at : ℕ) → PiecesRead text n at 0 []
+unfolding total flatMap
+no-pieces text n at = record { stands = stands-none text at; count = refl; each = tt }
+
+piece-more : (text : List ℕ) (n at p : ℕ) (q : Piece) (qs : List Piece) → PieceRead text n at q → PiecesRead text n (at + pieceBytes q) p qs → PiecesRead text n at (suc p) (q ∷ qs)
+unfolding total flatMap
+piece-more text n at p q qs one r = record {
+  stands = stands-both text at (pieceBytes q) (total (map pieceBytes qs)) (writtenPiece q) (flatMap writtenPiece qs) (one .stands) (r .stands);
+  count = ap suc (r .count);
+  each = (one .sound, r .each);
+}
+
+pieces-read : (text : List ℕ) (n at p : ℕ) (qs : List Piece) → readPieces text n at p ≡ value qs → PiecesRead text n at p qs
+unfolding readPieces
+pieces-read text n at zero qs e = subst (PiecesRead text n at 0) (value-same [] qs e) (no-pieces text n at)
+pieces-read text n at (suc p) qs e =
+    let a = bind-value (readPiece text n at) _ qs e in
+    let q = a .0 in
+    let b = bind-value (readPieces text n (at + pieceBytes q) p) _ qs (a .2) in
+    subst (PiecesRead text n at (suc p)) (value-same (q ∷ b .0) qs (b .2))
+    (piece-more text n at p q (b .0) (piece-read text n at q (a .1)) (pieces-read text n (at + pieceBytes q) p (b .0) (b .1)))
+
+-- ---- the whole text
+
+-- a list of one, of two
+one-number : (xs : List ℕ) → length xs ≡ 1 → xs ≡ getD xs 0 0 ∷ []
+one-number [] h = absurd (omega arith)
+one-number (x ∷ []) h = refl
+one-number (x ∷ y ∷ ys) h = absurd (omega arith)
+
+two-numbers : (xs : List ℕ) → length xs ≡ 2 → xs ≡ getD xs 0 0 ∷ getD xs 1 0 ∷ []
+two-numbers [] h = absurd (omega arith)
+two-numbers (x ∷ []) h = absurd (omega arith)
+two-numbers (x ∷ y ∷ []) h = refl
+two-numbers (x ∷ y ∷ z ∷ zs) h = absurd (omega arith)
+
+at-end : (text : List ℕ) (at : ℕ) → judgeEnd text at ≡ 0 → drop at text ≡ []
+unfolding judgeEnd
+at-end text at e = go (truth (eqb (length text) at))
+  where
+    go : Truth (eqb (length text) at) → drop at text ≡ []
+    go (holds t) = drop-of-length-le text {i = at} (omega (arith, eqb-true (length text) at t))
+    go (fails t) = let bad : _≡_ {A = ℕ} 3 0 = simp t at e in absurd (omega arith)
+
+-- behind the line of n and p
+record BodyRead (text : List ℕ) (n p : ℕ) (plan : Plan) : Type 0 where
+  n-is : plan .n ≡ n
+  p-is : length (plan .pieces) ≡ p
+  rest : drop (lineBytes 2) text ≡ flatMap writtenPiece (plan .pieces) ++ writtenLine (plan .source ∷ [])
+  sound : SoundPlan plan
+
+body-read : (text : List ℕ) (n p : ℕ) (plan : Plan) → readBody text n p ≡ value plan → BodyRead text n p plan
+unfolding readBody
+body-read text n p plan e =
+    let a = bind-value (require (judgeBounds n p)) _ plan e in
+    let b = bind-value (readPieces text n (lineBytes 2) p) _ plan (a .2) in
+    let qs = b .0 in
+    let at = lineBytes 2 + total (map pieceBytes qs) in
+    let c = bind-value (readLine fieldAt text at 1) _ plan (b .2) in
+    let question = c .0 in
+    let source = getD question 0 0 in
+    let d = bind-value (require (judgeSource n source)) _ plan (c .2) in
+    let f = bind-value (require (judgeEnd text (at + lineBytes 1))) _ plan (d .2) in
+    let r = pieces-read text n (lineBytes 2) p qs (b .1) in
+    let one : question ≡ source ∷ [] = one-number question (line-length fieldAt text at 1 question (c .1)) in
+    let line : drop at text ≡ writtenLine question ++ drop (at + lineBytes 1) text = line-written fieldAt (λ t i. refl) text at 1 question (c .1) in
+    let end : drop (at + lineBytes 1) text ≡ [] = at-end text (at + lineBytes 1) (require-value (judgeEnd text (at + lineBytes 1)) (f .0) (f .1)) in
+    let last : drop at text ≡ writtenLine (source ∷ []) = line ∙ rw end (append-nil (writtenLine question) ∙ ap writtenLine one) in
+    let same : record { n = n; pieces = qs; source = source } ≡ plan = value-same _ plan (f .2) in
+    subst (BodyRead text n p) same (record {
+      n-is = refl;
+      p-is = r .count;
+      rest = r .stands ∙ ap (λ (l : List ℕ). flatMap writtenPiece qs ++ l) last;
+      sound = record {
+        bounds = subst (λ (k : ℕ). judgeBounds n k ≡ 0) (sym (r .count)) (require-value (judgeBounds n p) (a .0) (a .1));
+        each = r .each;
+        source-in = require-value (judgeSource n source) (d .0) (d .1);
+      };
+    })
+
+whole : (text first : List ℕ) (n p : ℕ) (plan : Plan) → first ≡ n ∷ p ∷ [] → Stands text 0 (lineBytes 2) (writtenLine first) → BodyRead text n p plan → text ≡ written plan
+unfolding written
+whole text first n p plan two line body = line ∙ rw (two, body .rest, body .n-is, body .p-is)
+
+pub text-read : (text : List ℕ) (plan : Plan) → readPlan text ≡ value plan → SoundPlan plan × (text ≡ written plan)
+unfolding readPlan
+text-read text plan e =
+    let a = bind-value (readLine fieldAt text 0 2) _ plan e in
+    let first = a .0 in
+    let n = getD first 0 0 in
+    let p = getD first 1 0 in
+    let body = body-read text n p plan (a .2) in
+    let two : first ≡ n ∷ p ∷ [] = two-numbers first (line-length fieldAt text 0 2 first (a .1)) in
+    (body .sound, whole text first n p plan two (line-written fieldAt (λ t i. refl) text 0 2 first (a .1)) body)
