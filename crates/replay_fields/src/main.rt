@@ -47,7 +47,7 @@ fn main() {
     let mut input = input_buffer();
     let read = io::read_full(STDIN_FILENO, &mut input);
     if read > MAX_BYTES {
-        io::write_all(STDOUT_FILENO, b"the input is longer than 1048576 bytes\n");
+        io::write_all(STDOUT_FILENO, b"the input is longer than its buffer\n");
         return;
     }
     replay_lines(&input[..read]);
