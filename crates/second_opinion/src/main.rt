@@ -1,7 +1,7 @@
 // A second opinion of the labelling. Thousands of sound networks are generated, and each is labelled from several sources: by the engine, which
 // halves the pieces into Monge blocks and keeps an interval heap for each, and by Dijkstra's algorithm, which scans all vertices and the tables
 // as they are. The two share no code, so that an error would have to be made twice to pass. Compared are all 256 labels and how many vertices are
-// reached. Every network must be accepted, and the intervals inserted must be within their bound.
+// reached. Every network must be accepted, and the intervals inserted must be within 5 times the sum over pieces of m log m, rounded up.
 // Each network is made from its number alone, and one that differs is named by it. The file `stdout` names none.
 //   numbers     places, sums, random numbers
 //   graphs      planar graphs and the distances in them
@@ -212,6 +212,7 @@ fn count_network(tally: &mut [u32], number: u32, wrong: u32) {
     write_line(number, b" is the number of a network that differs.");
 }
 
+// Makes the network of a number and labels it. Places that it does not use hold the largest number, which would show if it were read.
 fn compare_network(number: u32, tally: &mut [u32]) {
     let mut sizes = [LARGEST; Network::SIZE_PLACES];
     let mut vertices = [LARGEST; Network::VERTEX_PLACES];
