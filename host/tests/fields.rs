@@ -61,6 +61,36 @@ fn fields_are_written() {
     }
 }
 
+/// The outside vectors of the writer: a number to a line, and its nine columns.
+#[test]
+fn stored_columns_are_written() {
+    let numbers: Vec<&str> = include_str!("../../tests/columns.in").lines().collect();
+    let columns: Vec<&str> = include_str!("../../tests/columns.out").lines().collect();
+    assert!(!numbers.is_empty());
+    assert_eq!(numbers.len(), columns.len());
+    for (number, stored) in numbers.iter().zip(columns) {
+        let x: u32 = number.parse().unwrap();
+        for place in 0..4 {
+            let (mut line, mut expected) = ([b'.'; LINE], [b'.'; LINE]);
+            expected[9 * place..9 * place + 9].copy_from_slice(stored.as_bytes());
+            assert_eq!(write_field(&mut line, place, x), 0, "{x} at {place}");
+            assert_eq!(line, expected, "{x} at {place}");
+        }
+        refuse_short_line_and_place_4(x);
+    }
+}
+
+/// A short line is refused by 1, also with the place out of bounds, and place 4 by 4; the line is left.
+fn refuse_short_line_and_place_4(x: u32) {
+    let mut short = [b'.'; LINE - 1];
+    assert_eq!(write_field(&mut short, 0, x), 1);
+    assert_eq!(write_field(&mut short, 4, x), 1);
+    assert_eq!(short, [b'.'; LINE - 1]);
+    let mut line = [b'.'; LINE];
+    assert_eq!(write_field(&mut line, 4, x), 4);
+    assert_eq!(line, [b'.'; LINE]);
+}
+
 #[test]
 fn lines_and_places_that_are_not_there_are_refused() {
     for place in [4, 5, usize::MAX] {

@@ -1,14 +1,17 @@
 // Replays a list of fields of six columns. Each line of standard input is six bytes and byte 10; for each the field's value is written, or
 // its refusal. The files `stdin` and `stdout` are the outside vectors.
+ghost use mathlib.Core.Path.{_≡_};
+ghost use lib.ListN.{length};
+use bounds::Text;
 use definitions::Field;
 use libc::STDIN_FILENO;
 use libc::STDOUT_FILENO;
 
-// A line's bytes.
-const LINE_BYTES: usize = 7;
+// The longest input: about 150,000 lines.
+const MAX_BYTES: usize = 1048576;
 
-// The bytes that are read at a time: 512 lines.
-const PAGE_BYTES: usize = 3584;
+// One place more shows that an input is longer.
+const INPUT_PLACES: usize = MAX_BYTES + 1;
 
 // Writes what the field at a place of the text says.
 fn write_reading(text: &[u8], at: usize) {
@@ -29,22 +32,23 @@ fn replay_lines(text: &[u8]) {
     let mut at = 0;
     while at < text.len() {
         write_reading(text, at);
-        at += LINE_BYTES;
+        at += Text::LINE_OF_ONE;
     }
 }
 
-// Replays the next lines of the input, and answers whether more may follow.
-fn replay_page() -> bool {
-    let mut page = [0u8; PAGE_BYTES];
-    let n = io::read_full(STDIN_FILENO, &mut page);
-    replay_lines(&page[..n]);
-    n == PAGE_BYTES
+// Zeros, of which a proof sees the number alone.
+fn input_buffer() -> [u8; INPUT_PLACES]
+    ensures { λ r. ⌜ 1048577 ≡ length r ⌝ }
+{
+    [0; INPUT_PLACES]
 }
 
-// A proved loop has to end, and nothing says that the input does: the count is one that no input uses up.
 fn main() {
-    let mut turns = u64::MAX;
-    while turns > 0 && replay_page() {
-        turns -= 1;
+    let mut input = input_buffer();
+    let read = io::read_full(STDIN_FILENO, &mut input);
+    if read > MAX_BYTES {
+        io::write_all(STDOUT_FILENO, b"the input is longer than its buffer\n");
+        return;
     }
+    replay_lines(&input[..read]);
 }

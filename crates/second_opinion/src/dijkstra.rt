@@ -1,18 +1,19 @@
 // Dijkstra's algorithm on the tables as they are. Vertices count from 1; the distance of vertex v stands at v - 1.
-use crate::numbers::NONE;
+use crate::networks::Shape;
 use crate::numbers::entry;
 use crate::numbers::fill;
 use crate::numbers::get;
 use crate::numbers::least;
-use crate::numbers::length;
 use crate::numbers::less;
 use crate::numbers::put;
 use crate::numbers::sum;
+use crate::numbers::times;
+use bounds::Network;
 
 // The place below n of the least distance that is not settled, n where there is none.
 fn nearest(distances: &[u32], settled: &[u32], n: u32) -> u32 {
     let mut best = n;
-    let mut low = NONE;
+    let mut low = Network::UNREACHED;
     for i in 0..n {
         let x = get(distances, i);
         if get(settled, i) == 0 && x < low {
@@ -23,51 +24,28 @@ fn nearest(distances: &[u32], settled: &[u32], n: u32) -> u32 {
     best
 }
 
-// The arcs of piece k from its place i; the one to the place itself changes nothing.
+// The arcs from a place of a piece to all places of it, if the place holds the vertex; row `place` of the lengths holds theirs.
 fn relax_row(
+    sizes: &[u32],
     vertices: &[u32],
     lengths: &[u32],
-    k: u32,
-    m: u32,
-    i: u32,
-    label: u32,
-    distances: &mut [u32],
-) {
-    for j in 0..m {
-        let at = less(entry(vertices, k, j), 1);
-        let x = least(get(distances, at), sum(label, length(lengths, k, i, j)));
-        put(distances, at, x);
-    }
-}
-
-// The place of piece k that holds a vertex, m where none does.
-fn place_of(vertices: &[u32], k: u32, m: u32, v: u32) -> u32 {
-    for i in 0..m {
-        if entry(vertices, k, i) == v {
-            return i;
-        }
-    }
-    m
-}
-
-// The arcs of piece k from a vertex.
-fn relax_piece(
-    vertices: &[u32],
-    lengths: &[u32],
-    k: u32,
-    m: u32,
+    place: u32,
     v: u32,
     label: u32,
     distances: &mut [u32],
 ) {
-    let i = place_of(vertices, k, m, v);
-    if i == m {
+    if get(vertices, place) != v {
         return;
     }
-    relax_row(vertices, lengths, k, m, i, label, distances);
+    let k = place / Network::MAX_SIZE;
+    for j in 0..get(sizes, k) {
+        let at = less(entry(vertices, k, j), 1);
+        let x = sum(label, entry(lengths, place, j));
+        put(distances, at, least(get(distances, at), x));
+    }
 }
 
-// All arcs from a vertex.
+// The arcs from a vertex. A place that is not used holds no vertex.
 fn relax(
     p: u32,
     sizes: &[u32],
@@ -77,48 +55,47 @@ fn relax(
     label: u32,
     distances: &mut [u32],
 ) {
-    for k in 0..p {
-        relax_piece(vertices, lengths, k, get(sizes, k), v, label, distances);
+    for place in 0..times(p, Network::MAX_SIZE) {
+        relax_row(sizes, vertices, lengths, place, v, label, distances);
     }
 }
 
 // Settles the nearest vertex and relaxes its arcs; false where none is left to settle.
 fn settle_nearest(
-    n: u32,
-    p: u32,
+    shape: Shape,
     sizes: &[u32],
     vertices: &[u32],
     lengths: &[u32],
     settled: &mut [u32],
     distances: &mut [u32],
 ) -> bool {
-    let at = nearest(distances, settled, n);
-    if at == n {
+    let at = nearest(distances, settled, shape.n);
+    if at == shape.n {
         return false;
     }
     put(settled, at, 1);
+    let v = sum(at, 1);
     let label = get(distances, at);
-    relax(p, sizes, vertices, lengths, sum(at, 1), label, distances);
+    relax(shape.p, sizes, vertices, lengths, v, label, distances);
     true
 }
 
-// Fills in the distances from the source, NONE for what is not reached, and answers how many vertices are reached.
+// Fills in the distances from the source, and answers how many vertices are reached.
 pub(crate) fn label_plainly(
-    n: u32,
-    p: u32,
+    shape: Shape,
     sizes: &[u32],
     vertices: &[u32],
     lengths: &[u32],
     source: u32,
     distances: &mut [u32],
 ) -> u32 {
-    let mut settled = [0u32; 256];
-    fill(distances, NONE);
+    let mut settled = [0u32; Network::LABEL_PLACES];
+    fill(distances, Network::UNREACHED);
     put(distances, less(source, 1), 0);
-    for reached in 0..n {
-        if !settle_nearest(n, p, sizes, vertices, lengths, &mut settled, distances) {
+    for reached in 0..shape.n {
+        if !settle_nearest(shape, sizes, vertices, lengths, &mut settled, distances) {
             return reached;
         }
     }
-    n
+    shape.n
 }

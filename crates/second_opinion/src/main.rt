@@ -1,99 +1,110 @@
-// Compares the labelling with Dijkstra's algorithm, and sessions with a model that scans, on thousands of generated cases, and writes what was
-// found. Each case has a number, from which it is made again. A case that differs is named; none does in the file `stdout`.
-// The plain algorithms share nothing with the code they are compared with, and every place is tested before it is read or written. All of it is
-// proved safe and ending; nothing of it is public.
+// A second opinion of the labelling. Thousands of sound networks are generated, and each is labelled from several sources: by the engine, which
+// halves the pieces into Monge blocks and keeps an interval heap for each, and by Dijkstra's algorithm, which scans all vertices and the tables
+// as they are. The two share no code, so that an error would have to be made twice to pass. Compared are all 256 labels and how many vertices are
+// reached. Every network must be accepted, and the intervals inserted must be within 5 times the sum over pieces of m log m, rounded up.
+// Each network is made from its number alone, and one that differs is named by it. The file `stdout` names none.
 //   numbers     places, sums, random numbers
-//   judgement   which cause turns a network or a session away, all corners of every block compared
-//   dijkstra    Dijkstra's algorithm on the tables as they are
-//   model       the heap of one block: activated rows in order, extracted columns, floor; everything found by scanning
-//   labelling   the labelling by its rules, over a model for each block
 //   graphs      planar graphs and the distances in them
 //   tables      tables of lengths
-//   networks    networks, and damage done to them
-//   sessions    rectangles and calls, with what the model makes of them
+//   networks    networks of such tables
+//   dijkstra    Dijkstra's algorithm
 mod dijkstra;
 mod graphs;
-mod judgement;
-mod labelling;
-mod model;
 mod networks;
 mod numbers;
-mod sessions;
 mod tables;
 
 use crate::dijkstra::label_plainly;
-use crate::judgement::judge;
-use crate::labelling::Labelled;
-use crate::labelling::label_by_rules;
-use crate::model::count_new;
-use crate::model::part;
 use crate::networks::Shape;
-use crate::networks::make_network;
+use crate::networks::choose_shape;
+use crate::networks::choose_source;
+use crate::networks::make_pieces;
+use crate::numbers::LARGEST;
+use crate::numbers::add;
 use crate::numbers::get;
-use crate::numbers::largest;
+use crate::numbers::less;
+use crate::numbers::most;
 use crate::numbers::put;
 use crate::numbers::seed_of;
 use crate::numbers::sum;
 use crate::numbers::times;
-use crate::sessions::Extent;
-use crate::sessions::Outcome;
-use crate::sessions::make_session;
-use crate::sessions::run_plainly;
+use bounds::Cause;
+use bounds::Network;
 use definitions::LabelAnswer;
-use definitions::SessionAnswer;
 use libc::STDOUT_FILENO;
 
 const NETWORKS: u32 = 2000;
 
-const SESSIONS: u32 = 4000;
+// The labellings of a network.
+const SOURCES: u32 = 3;
 
-// What a buffer holds before a call: a place that must be left or written shows.
+// The factor of the bound.
+const FACTOR: u32 = 5;
+
+// What a buffer of labels holds before: a place that must be written shows.
 const FILLER: u32 = 7;
 
-// The parent of an interval's places that are not used.
-const UNUSED: u32 = 255;
-
-// The places of a tally: how many cases are accepted, refused and agree, the vertices reached or the intervals inserted in all of them,
-// the most intervals inserted in one and its bound, how many stay within their bound, and the largest share of it in thousandths.
+// The places of a tally: in how many labellings each comparison comes out as it must, the vertices reached in all of them, the largest share
+// of a bound in thousandths, and how many networks differ.
 const ACCEPTED: u32 = 0;
 
-const REFUSED: u32 = 1;
+const SAME_LABELS: u32 = 1;
 
-const AGREE: u32 = 2;
+const SAME_REACHED: u32 = 2;
 
-const TOTAL: u32 = 3;
+const WITHIN: u32 = 3;
 
-const INSERTED: u32 = 4;
+const REACHED: u32 = 4;
 
-const BOUND: u32 = 5;
+const SHARE: u32 = 5;
 
-const WITHIN: u32 = 6;
+const DIFFERENT: u32 = 6;
 
-const SHARE: u32 = 7;
+// Then a place for each number of vertices, number of pieces and size of a piece, 1 where a network has it.
+const VERTEX_COUNTS: u32 = 7;
 
-const TALLIES: usize = 8;
+const PIECE_COUNTS: u32 = VERTEX_COUNTS + Network::MAX_VERTICES;
 
-// ---- writing
+const PIECE_SIZES: u32 = PIECE_COUNTS + Network::MAX_PIECES;
 
-fn write_line(words: &[u8], x: u32) {
-    io::write_all(STDOUT_FILENO, words);
-    io::print_decimal(STDOUT_FILENO, x as u64);
-    io::write_all(STDOUT_FILENO, b"\n");
+const TALLY_END: u32 = PIECE_SIZES + Network::MAX_SIZE;
+
+const TALLY_PLACES: usize = TALLY_END as usize;
+
+// ---- the bound
+
+// The logarithm of m to base 2, rounded up.
+fn logarithm(m: u32) -> u32 {
+    let mut e = 0;
+    let mut power = 1;
+    while e < 31 && power < m {
+        power = times(2, power);
+        e += 1;
+    }
+    e
 }
 
-// ---- tallies
-
-fn add(tally: &mut [u32], i: u32, x: u32) {
-    let y = sum(get(tally, i), x);
-    put(tally, i, y);
+// The most intervals that may be inserted: a multiple of the sum over pieces of m times its logarithm.
+fn bound(p: u32, sizes: &[u32]) -> u32 {
+    let mut total = 0;
+    for k in 0..p {
+        let m = get(sizes, k);
+        total = sum(total, times(m, logarithm(m)));
+    }
+    times(FACTOR, total)
 }
 
-fn put_largest(tally: &mut [u32], i: u32, x: u32) {
-    let y = largest(get(tally, i), x);
-    put(tally, i, y);
+// A part of a whole in thousandths; of nothing, each part counts as a whole.
+fn share(part: u32, whole: u32) -> u32 {
+    if whole == 0 {
+        return times(1000, part);
+    }
+    times(1000, part) / whole
 }
 
-// Whether two buffers of one length hold the same.
+// ---- a labelling
+
+// Whether two buffers hold the same.
 fn are_same(s: &[u32], t: &[u32]) -> bool {
     if s.len() != t.len() {
         return false;
@@ -108,151 +119,112 @@ fn are_same(s: &[u32], t: &[u32]) -> bool {
     true
 }
 
-// Counts a case, and names it where it differs.
-fn count_case(tally: &mut [u32], words: &[u8], number: u32, cause: u32, agrees: bool) {
-    let outcome = if cause == 0 { ACCEPTED } else { REFUSED };
-    add(tally, outcome, 1);
-    if agrees {
-        add(tally, AGREE, 1);
-        return;
+fn count(tally: &mut [u32], at: u32, is_so: bool) {
+    if is_so {
+        add(tally, at, 1);
     }
-    write_line(words, number);
+}
+
+// Counts what came out as it must, and answers whether all did.
+fn count_labelling(
+    tally: &mut [u32],
+    given: LabelAnswer,
+    same_labels: bool,
+    reached: u32,
+    limit: u32,
+) -> bool {
+    let accepted = given.number == Cause::NONE;
+    let same_reached = given.reached == reached;
+    let within = given.inserted <= limit;
+    count(tally, ACCEPTED, accepted);
+    count(tally, SAME_LABELS, same_labels);
+    count(tally, SAME_REACHED, same_reached);
+    count(tally, WITHIN, within);
+    add(tally, REACHED, given.reached);
+    let highest = most(get(tally, SHARE), share(given.inserted, limit));
+    put(tally, SHARE, highest);
+    accepted && same_labels && same_reached && within
+}
+
+// Labels a network by both, and answers whether all came out as it must.
+fn compare_labelling(
+    shape: Shape,
+    sizes: &[u32],
+    vertices: &[u32],
+    lengths: &[u32],
+    source: u32,
+    tally: &mut [u32],
+) -> bool {
+    let mut labels = [FILLER; Network::LABEL_PLACES];
+    let mut distances = [FILLER; Network::LABEL_PLACES];
+    let reached = label_plainly(shape, sizes, vertices, lengths, source, &mut distances);
+    let given = engine::label_network(
+        shape.n,
+        shape.p,
+        sizes,
+        vertices,
+        lengths,
+        source,
+        &mut labels,
+    );
+    let same_labels = are_same(&labels, &distances);
+    count_labelling(tally, given, same_labels, reached, bound(shape.p, sizes))
 }
 
 // ---- networks
 
-// The logarithm of m to base 2, rounded up.
-fn logarithm(m: u32) -> u32 {
-    let mut e = 0;
-    let mut power = 1;
-    while e < 31 && power < m {
-        power = times(2, power);
-        e += 1;
+// Labels a network from each source, and answers how many labellings did not come out as they must.
+fn compare_sources(
+    seed: &mut u64,
+    shape: Shape,
+    sizes: &[u32],
+    vertices: &[u32],
+    lengths: &[u32],
+    tally: &mut [u32],
+) -> u32 {
+    let mut wrong = 0;
+    for turn in 0..SOURCES {
+        let source = choose_source(seed, shape, sizes, vertices);
+        if !compare_labelling(shape, sizes, vertices, lengths, source, tally) {
+            wrong = sum(wrong, 1);
+        }
     }
-    e
+    wrong
 }
 
-// 5 times the sum over pieces of m times its logarithm.
-fn bound(p: u32, sizes: &[u32]) -> u32 {
-    let mut total = 0;
+// Marks one of the numbers from 1 on whose places begin at `first`.
+fn mark(tally: &mut [u32], first: u32, number: u32) {
+    put(tally, less(sum(first, number), 1), 1);
+}
+
+fn mark_sizes(tally: &mut [u32], p: u32, sizes: &[u32]) {
     for k in 0..p {
-        let m = get(sizes, k);
-        total = sum(total, times(m, logarithm(m)));
+        mark(tally, PIECE_SIZES, get(sizes, k));
     }
-    times(5, total)
 }
 
-// A part of a whole in thousandths.
-fn share(part: u32, whole: u32) -> u32 {
-    if whole == 0 {
-        return 0;
-    }
-    times(1000, part) / whole
-}
-
-// Notes the most intervals inserted, with the bound there.
-fn note_most(tally: &mut [u32], inserted: u32, most: u32) {
-    if inserted <= get(tally, INSERTED) {
+// Counts and names a network with a labelling that did not come out as it must.
+fn count_network(tally: &mut [u32], number: u32, wrong: u32) {
+    if wrong == 0 {
         return;
     }
-    put(tally, INSERTED, inserted);
-    put(tally, BOUND, most);
+    add(tally, DIFFERENT, 1);
+    write_line(number, b" is the number of a network that differs.");
 }
 
-// Counts what an accepted labelling reached and inserted.
-fn count_labelling(tally: &mut [u32], given: LabelAnswer, most: u32) {
-    if given.number != 0 {
-        return;
-    }
-    let within = if given.inserted <= most { 1 } else { 0 };
-    add(tally, WITHIN, within);
-    add(tally, TOTAL, given.reached);
-    put_largest(tally, SHARE, share(given.inserted, most));
-    note_most(tally, given.inserted, most);
-}
-
-// What the labelling returns and leaves.
-fn label(
-    shape: Shape,
-    sizes: &[u32],
-    vertices: &[u32],
-    lengths: &[u32],
-    labels: &mut [u32],
-) -> LabelAnswer {
-    engine::label_network(
-        shape.n,
-        shape.p,
-        sizes,
-        vertices,
-        lengths,
-        shape.source,
-        labels,
-    )
-}
-
-fn counts_agree(given: LabelAnswer, cause: u32, ruled: Labelled) -> bool {
-    given.number == cause
-        && given.reached == ruled.reached
-        && given.extracted == ruled.extracted
-        && given.inserted == ruled.inserted
-}
-
-// What must be returned and left: the labels and counts of the rules, and the labels are Dijkstra's. A refusal returns counts 0 and leaves
-// the labels.
-fn expect(
-    shape: Shape,
-    sizes: &[u32],
-    vertices: &[u32],
-    lengths: &[u32],
-    cause: u32,
-    labels: &mut [u32],
-    distances: &mut [u32],
-) -> Labelled {
-    if cause != 0 {
-        return Labelled {
-            reached: 0,
-            extracted: 0,
-            inserted: 0,
-        };
-    }
-    label_plainly(
-        shape.n,
-        shape.p,
-        sizes,
-        vertices,
-        lengths,
-        shape.source,
-        distances,
-    );
-    label_by_rules(shape.p, sizes, vertices, lengths, shape.source, labels)
-}
-
+// Makes the network of a number and labels it. Places that it does not use hold the largest number, which would show if it were read.
 fn compare_network(number: u32, tally: &mut [u32]) {
-    let mut sizes = [0u32; 16];
-    let mut vertices = [0u32; 384];
-    let mut lengths = [0u32; 9216];
-    let mut labels = [FILLER; 256];
-    let mut ruled = [FILLER; 256];
-    let mut distances = [FILLER; 256];
+    let mut sizes = [LARGEST; Network::SIZE_PLACES];
+    let mut vertices = [LARGEST; Network::VERTEX_PLACES];
+    let mut lengths = [LARGEST; Network::LENGTH_PLACES];
     let mut seed = seed_of(number);
-    let shape = make_network(&mut seed, &mut sizes, &mut vertices, &mut lengths);
-    let most = bound(shape.p, &sizes);
-    let cause = judge(shape.n, shape.p, &sizes, &vertices, &lengths, shape.source);
-    let counts = expect(
-        shape,
-        &sizes,
-        &vertices,
-        &lengths,
-        cause,
-        &mut ruled,
-        &mut distances,
-    );
-    let given = label(shape, &sizes, &vertices, &lengths, &mut labels);
-    let agrees = counts_agree(given, cause, counts)
-        && are_same(&labels, &distances)
-        && are_same(&labels, &ruled);
-    count_case(tally, b"network that differs ", number, cause, agrees);
-    count_labelling(tally, given, most);
+    let shape = choose_shape(&mut seed, number);
+    make_pieces(&mut seed, shape, &mut sizes, &mut vertices, &mut lengths);
+    mark(tally, VERTEX_COUNTS, shape.n);
+    mark(tally, PIECE_COUNTS, shape.p);
+    mark_sizes(tally, shape.p, &sizes);
+    let wrong = compare_sources(&mut seed, shape, &sizes, &vertices, &lengths, tally);
+    count_network(tally, number, wrong);
 }
 
 fn compare_networks(tally: &mut [u32]) {
@@ -261,125 +233,67 @@ fn compare_networks(tally: &mut [u32]) {
     }
 }
 
-// ---- sessions
-
-// What a session returns and leaves.
-fn run(
-    extent: Extent,
-    lengths: &[u32],
-    calls: &[u32],
-    answers: &mut [u32],
-    intervals: &mut [u32],
-) -> SessionAnswer {
-    engine::run_session(
-        extent.rows,
-        extent.cols,
-        extent.count,
-        lengths,
-        calls,
-        answers,
-        intervals,
-    )
-}
-
-// Whether the triples from a place on are not used.
-fn are_unused(intervals: &[u32], from: u32) -> bool {
-    for j in from..24 {
-        if part(intervals, j, 0) != UNUSED
-            || part(intervals, j, 1) != UNUSED
-            || part(intervals, j, 2) != UNUSED
-        {
-            return false;
-        }
-    }
-    true
-}
-
-// The same intervals in any order, each once, and nothing beside them; a refusal leaves the buffer.
-fn intervals_agree(intervals: &[u32], kept: &[u32], outcome: Outcome) -> bool {
-    if outcome.number != 0 {
-        return are_same(intervals, kept);
-    }
-    let count = outcome.kept;
-    let extra = count_new(intervals, count, kept, count);
-    let missing = count_new(kept, count, intervals, count);
-    extra == 0 && missing == 0 && are_unused(intervals, count)
-}
-
-fn outcomes_agree(given: SessionAnswer, outcome: Outcome) -> bool {
-    given.number == outcome.number
-        && given.inserted == outcome.inserted
-        && given.removed == outcome.removed
-}
-
-fn compare_session(number: u32, tally: &mut [u32]) {
-    let mut lengths = [FILLER; 576];
-    let mut calls = [FILLER; 192];
-    let mut answers = [FILLER; 192];
-    let mut expected = [FILLER; 192];
-    let mut intervals = [FILLER; 72];
-    let mut kept = [FILLER; 72];
-    let mut seed = seed_of(number);
-    let extent = make_session(&mut seed, &mut lengths);
-    let outcome = run_plainly(
-        &mut seed,
-        extent,
-        &lengths,
-        &mut calls,
-        &mut expected,
-        &mut kept,
-    );
-    let given = run(extent, &lengths, &calls, &mut answers, &mut intervals);
-    let agrees = outcomes_agree(given, outcome) && are_same(&answers, &expected);
-    let kept_agree = intervals_agree(&intervals, &kept, outcome);
-    count_case(
-        tally,
-        b"session that differs ",
-        number,
-        outcome.number,
-        agrees && kept_agree,
-    );
-    add(tally, TOTAL, outcome.inserted);
-    put_largest(tally, INSERTED, outcome.inserted);
-}
-
-fn compare_sessions(tally: &mut [u32]) {
-    for number in 0..SESSIONS {
-        compare_session(number, tally);
-    }
-}
-
 // ---- the listing
 
-fn write_networks(tally: &[u32]) {
-    write_line(b"networks ", NETWORKS);
-    write_line(b"networks accepted ", get(tally, ACCEPTED));
-    write_line(b"networks refused ", get(tally, REFUSED));
-    write_line(b"networks that agree ", get(tally, AGREE));
-    write_line(b"vertices reached ", get(tally, TOTAL));
-    write_line(b"networks within the bound ", get(tally, WITHIN));
-    write_line(b"most intervals inserted ", get(tally, INSERTED));
-    write_line(b"the bound there ", get(tally, BOUND));
-    write_line(
-        b"largest share of a bound, in thousandths ",
-        get(tally, SHARE),
-    );
+fn write_line(x: u32, words: &[u8]) {
+    io::print_decimal(STDOUT_FILENO, x as u64);
+    io::write_all(STDOUT_FILENO, words);
+    io::write_all(STDOUT_FILENO, b"\n");
 }
 
-fn write_sessions(tally: &[u32]) {
-    write_line(b"sessions ", SESSIONS);
-    write_line(b"sessions accepted ", get(tally, ACCEPTED));
-    write_line(b"sessions refused ", get(tally, REFUSED));
-    write_line(b"sessions that agree ", get(tally, AGREE));
-    write_line(b"intervals inserted ", get(tally, TOTAL));
-    write_line(b"most intervals inserted ", get(tally, INSERTED));
+fn count_marks(tally: &[u32], first: u32, end: u32) -> u32 {
+    let mut marks = 0;
+    for at in first..end {
+        marks = sum(marks, get(tally, at));
+    }
+    marks
+}
+
+fn write_networks(tally: &[u32]) {
+    let vertices = count_marks(tally, VERTEX_COUNTS, PIECE_COUNTS);
+    let pieces = count_marks(tally, PIECE_COUNTS, PIECE_SIZES);
+    let sizes = count_marks(tally, PIECE_SIZES, TALLY_END);
+    write_line(NETWORKS, b" sound networks were made.");
+    write_line(
+        vertices,
+        b" numbers of vertices, of 1 to 256, occur in them.",
+    );
+    write_line(pieces, b" numbers of pieces, of 1 to 16, occur in them.");
+    write_line(sizes, b" sizes of a piece, of 1 to 24, occur in them.");
+}
+
+fn write_labellings(tally: &[u32]) {
+    write_line(
+        NETWORKS * SOURCES,
+        b" labellings were made, from 3 sources in each network.",
+    );
+    write_line(get(tally, ACCEPTED), b" labellings were accepted.");
+    write_line(
+        get(tally, SAME_LABELS),
+        b" labellings have Dijkstra's labels in all 256 places.",
+    );
+    write_line(
+        get(tally, SAME_REACHED),
+        b" labellings reached as many vertices as Dijkstra's algorithm.",
+    );
+    write_line(
+        get(tally, WITHIN),
+        b" labellings inserted no more intervals than 5 times the sum of m log m.",
+    );
+    write_line(
+        get(tally, SHARE),
+        b" thousandths of that bound is the most that one inserted.",
+    );
+    write_line(
+        get(tally, REACHED),
+        b" vertices were reached in all labellings together.",
+    );
+    write_line(get(tally, DIFFERENT), b" networks differ.");
 }
 
 fn main() {
-    let mut networks = [0u32; TALLIES];
-    let mut sessions = [0u32; TALLIES];
-    compare_networks(&mut networks);
-    write_networks(&networks);
-    compare_sessions(&mut sessions);
-    write_sessions(&sessions);
+    let mut tally = [0u32; TALLY_PLACES];
+    compare_networks(&mut tally);
+    write_networks(&tally);
+    write_labellings(&tally);
 }

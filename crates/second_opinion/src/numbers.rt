@@ -1,14 +1,9 @@
-// Places, sums and random numbers.
+// Places, sums and random numbers. Every place is tested before it is read or written, and a sum that does not fit is the largest number.
 ghost use Prim.Native.Nat.{_≤_};
+use bounds::Network;
 
-// A number that no place and no sum reaches.
-pub(crate) const NONE: u32 = 4294967295;
-
-// The places of a row of a table.
-const ROW_PLACES: usize = 24;
-
-// The places of a table.
-const TABLE_PLACES: usize = 576;
+// What stands in the places that a network does not use.
+pub(crate) const LARGEST: u32 = u32::MAX;
 
 // ---- places
 
@@ -26,35 +21,26 @@ pub(crate) fn put(s: &mut [u32], i: u32, x: u32) {
     }
 }
 
-// The entry of a table with rows of 24, 0 past the end.
-pub(crate) fn entry(table: &[u32], i: u32, j: u32) -> u32 {
-    let at = ROW_PLACES * (i as usize) + j as usize;
-    if at < table.len() { table[at] } else { 0 }
+// Adds to what stands at a place.
+pub(crate) fn add(s: &mut [u32], i: u32, x: u32) {
+    let y = sum(get(s, i), x);
+    put(s, i, y);
 }
 
-// Stores an entry of such a table.
-pub(crate) fn put_entry(table: &mut [u32], i: u32, j: u32, x: u32) {
-    let at = ROW_PLACES * (i as usize) + j as usize;
-    if at < table.len() {
-        table[at] = x;
+// What stands at place j of row i, 0 past the end.
+pub(crate) fn entry(rows: &[u32], i: u32, j: u32) -> u32 {
+    let at = Network::ROW_PLACES * (i as usize) + j as usize;
+    if at < rows.len() { rows[at] } else { 0 }
+}
+
+// Stores at place j of row i; past the end nothing.
+pub(crate) fn put_entry(rows: &mut [u32], i: u32, j: u32, x: u32) {
+    let at = Network::ROW_PLACES * (i as usize) + j as usize;
+    if at < rows.len() {
+        rows[at] = x;
     }
 }
 
-// The entry (i, j) of piece k.
-pub(crate) fn length(lengths: &[u32], k: u32, i: u32, j: u32) -> u32 {
-    let at = TABLE_PLACES * (k as usize) + ROW_PLACES * (i as usize) + j as usize;
-    if at < lengths.len() { lengths[at] } else { 0 }
-}
-
-// Stores the entry (i, j) of piece k.
-pub(crate) fn put_length(lengths: &mut [u32], k: u32, i: u32, j: u32, x: u32) {
-    let at = TABLE_PLACES * (k as usize) + ROW_PLACES * (i as usize) + j as usize;
-    if at < lengths.len() {
-        lengths[at] = x;
-    }
-}
-
-// Fills a slice.
 pub(crate) fn fill(s: &mut [u32], x: u32) {
     let mut i = 0;
     while i < s.len() {
@@ -65,16 +51,20 @@ pub(crate) fn fill(s: &mut [u32], x: u32) {
 
 // ---- sums
 
-// The sum, or the largest number where it does not fit.
 pub(crate) fn sum(a: u32, b: u32) -> u32 {
     let s = a as u64 + b as u64;
-    if s > 4294967295 { 4294967295 } else { s as u32 }
+    if s > LARGEST as u64 {
+        return LARGEST;
+    }
+    s as u32
 }
 
-// The product, or the largest number where it does not fit.
 pub(crate) fn times(a: u32, b: u32) -> u32 {
     let x = a as u64 * b as u64;
-    if x > 4294967295 { 4294967295 } else { x as u32 }
+    if x > LARGEST as u64 {
+        return LARGEST;
+    }
+    x as u32
 }
 
 // What is left of a, 0 where b is larger.
@@ -98,15 +88,21 @@ pub(crate) fn least(a: u32, b: u32) -> u32
 }
 
 // The larger of two numbers.
-pub(crate) fn largest(a: u32, b: u32) -> u32 {
+pub(crate) fn most(a: u32, b: u32) -> u32
+    ensures { λ r. ⌜ a ≤ r ⌝ }
+    ensures { λ r. ⌜ b ≤ r ⌝ }
+{
     if a < b { b } else { a }
 }
 
 // ---- random numbers
 
-// The seed of the case of a number: never 0, and far from its neighbours'.
+// Spreads the seeds of neighbours.
+const SPREAD: u64 = 2654435761;
+
+// The seed of the network of a number: never 0, and far from its neighbours'.
 pub(crate) fn seed_of(number: u32) -> u64 {
-    let mut seed = (number as u64 + 1) * 2654435761;
+    let mut seed = (number as u64 + 1) * SPREAD;
     advance(&mut seed);
     advance(&mut seed);
     advance(&mut seed);
@@ -123,11 +119,11 @@ fn advance(seed: &mut u64) -> u64 {
     x
 }
 
-// A random number from 0 to `most`.
-pub(crate) fn up_to(seed: &mut u64, most: u32) -> u32
-    ensures { λ r. ⌜ r ≤ most ⌝ }
+// A random number from 0 to `top`.
+pub(crate) fn up_to(seed: &mut u64, top: u32) -> u32
+    ensures { λ r. ⌜ r ≤ top ⌝ }
 {
-    (advance(seed) % (most as u64 + 1)) as u32
+    (advance(seed) % (top as u64 + 1)) as u32
 }
 
 // True once in so many times; always for 0.

@@ -1,257 +1,243 @@
-// Tables of lengths for a piece of m vertices: 24 rows of 24. Places that the size does not use hold anything.
-use crate::graphs::FAR;
+// Tables of lengths that every check accepts. Each generator fills a whole table, rows of 24; a piece of m vertices takes the first m rows and
+// columns of it.
 use crate::graphs::GRAPH_PLACES;
 use crate::graphs::RIM;
-use crate::graphs::distance;
-use crate::graphs::distances;
-use crate::judgement::MAX_LENGTH;
-use crate::judgement::middle;
+use crate::graphs::arc;
+use crate::graphs::fill_distances;
 use crate::numbers::apart;
 use crate::numbers::entry;
+use crate::numbers::fill;
 use crate::numbers::get;
 use crate::numbers::less;
 use crate::numbers::one_in;
 use crate::numbers::put;
-use crate::numbers::put_entry;
 use crate::numbers::sum;
 use crate::numbers::up_to;
+use bounds::Network;
 
-// The weights of a graded table: 24 of rows, 24 of columns, 48 of blocks.
-pub(crate) const WEIGHTS: usize = 96;
+// The places of a row and of a table, as numbers of a loop.
+const SIDE: u32 = Network::MAX_SIZE;
 
-// The kinds of tables that every judgement accepts, and those that few do.
-pub(crate) const REALISTIC_KINDS: u32 = 2;
+const PLACES: u32 = SIDE * SIDE;
 
-pub(crate) const SOUND_KINDS: u32 = 8;
+// The weights of a graded table: of rows, of columns, and of the blocks above and below the diagonal.
+const COLUMN_WEIGHTS: u32 = SIDE;
 
-pub(crate) const KINDS: u32 = 10;
+const UPPER_WEIGHTS: u32 = 2 * SIDE;
+
+const LOWER_WEIGHTS: u32 = 3 * SIDE;
+
+const WEIGHTS: usize = 4 * Network::ROW_PLACES;
+
+// The longest step along a line: 24 of them are no longer than the largest length.
+const MAX_STEP: u32 = 4000;
+
+// One step of a graded table in so many is not 0.
+const CLIMBS: u32 = 4;
+
+// The largest weight and step of a graded table: three weights and 576 steps are no longer than the largest length.
+const MAX_WEIGHT: u32 = 20000;
+
+const MAX_CLIMB: u32 = 60;
+
+// The kinds of tables; the planar ones come first.
+pub(crate) const PLANAR_KINDS: u32 = 2;
+
+pub(crate) const KINDS: u32 = 8;
 
 // ---- planar pieces
 
-// Stores a site after the first `chosen` or passes it over, and answers how many are chosen then.
-fn choose_site(sites: &mut [u32], chosen: u32, t: u32, is_chosen: bool) -> u32 {
-    if !is_chosen {
+// Chooses node t of the rim or passes it over, so that each choice of m nodes is as likely as any other, and answers how many are chosen.
+fn choose_node(seed: &mut u64, m: u32, chosen: u32, t: u32, nodes: &mut [u32]) -> u32 {
+    if up_to(seed, less(RIM - 1, t)) >= less(m, chosen) {
         return chosen;
     }
-    put(sites, chosen, t);
+    put(nodes, chosen, t);
     sum(chosen, 1)
 }
 
-// Chooses m sites of the rim, clockwise.
-fn choose_sites(seed: &mut u64, m: u32, sites: &mut [u32]) {
+// Chooses m nodes of the rim, clockwise.
+fn choose_nodes(seed: &mut u64, m: u32, nodes: &mut [u32]) {
     let mut chosen = 0;
     for t in 0..RIM {
-        let left = less(RIM - 1, t);
-        let is_chosen = up_to(seed, left) < less(m, chosen);
-        chosen = choose_site(sites, chosen, t, is_chosen);
+        chosen = choose_node(seed, m, chosen, t, nodes);
     }
 }
 
-fn copy_row(graph: &[u32], is_grid: bool, sites: &[u32], m: u32, i: u32, table: &mut [u32]) {
-    let from = get(sites, i);
-    for j in 0..m {
-        put_entry(table, i, j, distance(graph, is_grid, from, get(sites, j)));
+fn copy_distances(graph: &[u32], nodes: &[u32], table: &mut [u32]) {
+    for at in 0..PLACES {
+        let x = arc(graph, get(nodes, at / SIDE), get(nodes, at % SIDE));
+        put(table, at, x);
     }
 }
 
-fn copy_rows(graph: &[u32], is_grid: bool, sites: &[u32], m: u32, table: &mut [u32]) {
-    for i in 0..m {
-        copy_row(graph, is_grid, sites, m, i, table);
-    }
+// The distances inside a planar piece, a grid or a ring.
+fn fill_planar(seed: &mut u64, m: u32, is_grid: bool, table: &mut [u32]) {
+    let mut graph = [0u32; GRAPH_PLACES];
+    let mut nodes = [0u32; Network::ROW_PLACES];
+    fill_distances(seed, &mut graph, is_grid);
+    choose_nodes(seed, m, &mut nodes);
+    copy_distances(&graph, &nodes, table);
 }
 
-// The shortest distances inside a planar piece.
-fn fill_planar(seed: &mut u64, m: u32, table: &mut [u32], is_grid: bool) {
-    let mut graph = [FAR; GRAPH_PLACES];
-    let mut sites = [0u32; 24];
-    distances(seed, &mut graph, is_grid);
-    choose_sites(seed, m, &mut sites);
-    copy_rows(&graph, is_grid, &sites, m, table);
-}
+// ---- vertices around a line of track
 
-// ---- vertices on a line
-
-// Places that rise and then fall: the vertices around a line of track.
-fn place_around(seed: &mut u64, m: u32, most: u32, places: &mut [u32]) {
-    let peak = up_to(seed, RIM);
+// Points that rise up to a random place and fall after it.
+fn choose_points(seed: &mut u64, points: &mut [u32]) {
+    let peak = up_to(seed, SIDE);
     let mut x = 0;
-    for i in 0..m {
-        let step = up_to(seed, most);
+    for i in 0..SIDE {
+        let step = up_to(seed, MAX_STEP);
         x = if i < peak {
             sum(x, step)
         } else {
             less(x, step)
         };
-        put(places, i, x);
+        put(points, i, x);
     }
 }
 
-// Places in any order: few such tables are sound.
-fn place_anywhere(seed: &mut u64, m: u32, most: u32, places: &mut [u32]) {
-    for i in 0..m {
-        let x = up_to(seed, most);
-        put(places, i, x);
+fn fill_apart(points: &[u32], table: &mut [u32]) {
+    for at in 0..PLACES {
+        let x = apart(get(points, at / SIDE), get(points, at % SIDE));
+        put(table, at, x);
     }
 }
 
-fn fill_apart_row(places: &[u32], m: u32, i: u32, table: &mut [u32]) {
-    for j in 0..m {
-        put_entry(table, i, j, apart(get(places, i), get(places, j)));
-    }
-}
-
-// The lengths |x - y|.
-fn fill_apart(places: &[u32], m: u32, table: &mut [u32]) {
-    for i in 0..m {
-        fill_apart_row(places, m, i, table);
-    }
+// The lengths along the line.
+fn fill_line(seed: &mut u64, table: &mut [u32]) {
+    let mut points = [0u32; Network::ROW_PLACES];
+    choose_points(seed, &mut points);
+    fill_apart(&points, table);
 }
 
 // ---- graded tables
 
-// Adds up random steps to the left of and above each place, so that every four neighbours bend the same way.
-pub(crate) fn fill_steps_row(seed: &mut u64, most: u32, i: u32, steps: &mut [u32]) {
-    let mut along = 0;
-    for j in 0..RIM {
-        if one_in(seed, 4) {
-            along = sum(along, up_to(seed, most));
+// The middle of the split that parts two places of a piece of m: each split of the halving has its own. 0 where they are the same.
+fn middle(m: u32, i: u32, j: u32) -> u32 {
+    let mut first = 0;
+    let mut end = m;
+    while end - first > 1 {
+        let half = first + (end - first) / 2;
+        let i_before = i < half;
+        let j_before = j < half;
+        if i_before != j_before {
+            return half;
         }
-        let above = if i == 0 { 0 } else { entry(steps, i - 1, j) };
-        put_entry(steps, i, j, sum(above, along));
+        if i_before {
+            end = half;
+        } else {
+            first = half;
+        }
     }
+    0
 }
 
-pub(crate) fn fill_steps(seed: &mut u64, most: u32, steps: &mut [u32]) {
-    for i in 0..RIM {
-        fill_steps_row(seed, most, i, steps);
-    }
+// What the row, the column and the block of a place weigh.
+fn weight(weights: &[u32], m: u32, i: u32, j: u32) -> u32 {
+    let side = if i < j { UPPER_WEIGHTS } else { LOWER_WEIGHTS };
+    let line = sum(get(weights, i), get(weights, sum(COLUMN_WEIGHTS, j)));
+    sum(line, get(weights, sum(side, middle(m, i, j))))
 }
 
-// Random numbers.
-pub(crate) fn fill_random(seed: &mut u64, most: u32, s: &mut [u32]) {
+fn fill_random(seed: &mut u64, top: u32, s: &mut [u32]) {
     let mut i = 0;
     while i < s.len() {
-        s[i] = up_to(seed, most);
+        s[i] = up_to(seed, top);
         i += 1;
     }
 }
 
-// What the row, the column and the block of (i, j) weigh.
-fn weight(weights: &[u32], m: u32, i: u32, j: u32) -> u32 {
-    let block = middle(m, i, j);
-    let side = if i < j { 48 } else { 72 };
-    sum(
-        sum(get(weights, i), get(weights, sum(24, j))),
-        get(weights, sum(side, block)),
-    )
+// What a row of steps adds up to at column j: a step now and then.
+fn climb(seed: &mut u64, top: u32, along: u32, j: u32) -> u32 {
+    let before = if j == 0 { 0 } else { along };
+    if one_in(seed, CLIMBS) {
+        return sum(before, up_to(seed, top));
+    }
+    before
 }
 
-fn fill_low_row(weights: &[u32], steps: &[u32], m: u32, i: u32, table: &mut [u32]) {
-    for j in 0..m {
-        put_entry(
-            table,
-            i,
-            j,
-            sum(weight(weights, m, i, j), entry(steps, i, j)),
-        );
+// Adds up random steps to the left of and above each place, so that every four neighbours bend the same way.
+fn fill_steps(seed: &mut u64, top: u32, steps: &mut [u32]) {
+    let mut along = 0;
+    for at in 0..PLACES {
+        along = climb(seed, top, along, at % SIDE);
+        let above = if at < SIDE { 0 } else { get(steps, at - SIDE) };
+        put(steps, at, sum(above, along));
     }
 }
 
-// The same counted down from the largest length, the steps mirrored so that they bend the same way again.
-fn fill_high_row(weights: &[u32], steps: &[u32], m: u32, i: u32, table: &mut [u32]) {
-    for j in 0..m {
-        let down = sum(weight(weights, m, i, j), entry(steps, i, less(RIM - 1, j)));
-        put_entry(table, i, j, less(MAX_LENGTH, down));
-    }
-}
-
-fn fill_low_or_high_row(
-    weights: &[u32],
-    steps: &[u32],
-    m: u32,
-    i: u32,
-    is_high: bool,
-    table: &mut [u32],
-) {
+// A length counted up from 0, or down from the largest: the steps are then mirrored, so that they bend the same way again.
+fn graded(weights: &[u32], steps: &[u32], m: u32, is_high: bool, i: u32, j: u32) -> u32 {
+    let level = weight(weights, m, i, j);
     if is_high {
-        fill_high_row(weights, steps, m, i, table);
-        return;
+        let down = sum(level, entry(steps, i, less(SIDE - 1, j)));
+        return less(Network::MAX_LENGTH, down);
     }
-    fill_low_row(weights, steps, m, i, table);
+    sum(level, entry(steps, i, j))
 }
 
-fn fill_graded_rows(weights: &[u32], steps: &[u32], m: u32, is_high: bool, table: &mut [u32]) {
-    for i in 0..m {
-        fill_low_or_high_row(weights, steps, m, i, is_high, table);
+fn fill_levels(weights: &[u32], steps: &[u32], m: u32, is_high: bool, table: &mut [u32]) {
+    for at in 0..PLACES {
+        let x = graded(weights, steps, m, is_high, at / SIDE, at % SIDE);
+        put(table, at, x);
     }
 }
 
-// Sound tables with no triangle rule: each block lies on a level of its own.
-fn fill_graded(
-    seed: &mut u64,
-    m: u32,
-    most: u32,
-    most_step: u32,
-    is_high: bool,
-    table: &mut [u32],
-) {
+// Tables with no triangle rule: each block lies on a level of its own.
+fn fill_graded(seed: &mut u64, m: u32, top: u32, top_step: u32, is_high: bool, table: &mut [u32]) {
     let mut weights = [0u32; WEIGHTS];
-    let mut steps = [0u32; 576];
-    fill_random(seed, most, &mut weights);
-    fill_steps(seed, most_step, &mut steps);
-    fill_graded_rows(&weights, &steps, m, is_high, table);
+    let mut steps = [0u32; Network::TABLE_PLACES];
+    fill_random(seed, top, &mut weights);
+    fill_steps(seed, top_step, &mut steps);
+    fill_levels(&weights, &steps, m, is_high, table);
 }
 
 // ---- all kinds
-
-fn clear_diagonal(m: u32, table: &mut [u32]) {
-    for i in 0..m {
-        put_entry(table, i, i, 0);
-    }
-}
-
-fn place(seed: &mut u64, m: u32, is_around: bool, places: &mut [u32]) {
-    if is_around {
-        place_around(seed, m, 4000, places);
-        return;
-    }
-    place_anywhere(seed, m, 9, places);
-}
-
-// The lengths along a line.
-fn fill_line(seed: &mut u64, m: u32, is_around: bool, table: &mut [u32]) {
-    let mut places = [0u32; 24];
-    place(seed, m, is_around, &mut places);
-    fill_apart(&places, m, table);
-}
 
 // The same length everywhere: zeros, or the largest, or any.
 fn fill_constant(seed: &mut u64, table: &mut [u32]) {
     let x = match up_to(seed, 3) {
         0 => 0,
-        1 => MAX_LENGTH,
-        _ => up_to(seed, MAX_LENGTH),
+        1 => Network::MAX_LENGTH,
+        _ => up_to(seed, Network::MAX_LENGTH),
     };
-    crate::numbers::fill(table, x);
+    fill(table, x);
 }
 
 fn fill_kind(seed: &mut u64, kind: u32, m: u32, table: &mut [u32]) {
     match kind {
-        0 => fill_planar(seed, m, table, true),
-        1 => fill_planar(seed, m, table, false),
-        2 => fill_line(seed, m, true, table),
+        0 => fill_planar(seed, m, true, table),
+        1 => fill_planar(seed, m, false, table),
+        2 => fill_line(seed, table),
         3 => fill_constant(seed, table),
         4 => fill_graded(seed, m, 1, 1, false, table),
         5 => fill_graded(seed, m, 0, 1, false, table),
-        6 => fill_graded(seed, m, 20000, 60, false, table),
-        7 => fill_graded(seed, m, 2, 3, true, table),
-        8 => fill_line(seed, m, false, table),
-        _ => fill_random(seed, 2, table),
+        6 => fill_graded(seed, m, MAX_WEIGHT, MAX_CLIMB, false, table),
+        _ => fill_graded(seed, m, 2, 3, true, table),
     }
 }
 
-// Fills the table of a piece.
+// Copies a place that a piece of m vertices uses, with 0 on the diagonal.
+fn copy_used(whole: &[u32], m: u32, at: u32, table: &mut [u32]) {
+    let i = at / SIDE;
+    let j = at % SIDE;
+    if i >= m || j >= m {
+        return;
+    }
+    let x = if i == j { 0 } else { get(whole, at) };
+    put(table, at, x);
+}
+
+fn copy_table(whole: &[u32], m: u32, table: &mut [u32]) {
+    for at in 0..PLACES {
+        copy_used(whole, m, at, table);
+    }
+}
+
+// Fills the places of a table that a piece of m vertices uses.
 pub(crate) fn fill_table(seed: &mut u64, kind: u32, m: u32, table: &mut [u32]) {
-    fill_kind(seed, kind, m, table);
-    clear_diagonal(m, table);
+    let mut whole = [0u32; Network::TABLE_PLACES];
+    fill_kind(seed, kind, m, &mut whole);
+    copy_table(&whole, m, table);
 }

@@ -1,7 +1,7 @@
 -- `is_filled` ends at the buffer's end, and reads inside it.
-use lib.ListN.{length}
 use Prim.Native.Nat.{_-_}
 use borrow.Author.Needs.{needs}
+use lib.ListN.{length}
 use Rattle.replay_sessions.proofs.is_filled.Statement.{statement}
 use Rattle.replay_sessions.proofs.is_filled.Tie as tie
 
@@ -13,5 +13,5 @@ abbrev μ-loop : tie.MeasureT-loop
 
 pub is-filled-spec : {M : Type 1} → statement M
 is-filled-spec =
-    tie.close (tie.spec Inv-loop μ-loop (λ c. search needs) (λ c. search needs) (λ c. search needs) (λ c. search needs) (λ c. search needs)
-    (λ c. search needs) (λ c. search needs) (λ c. search needs))
+    tie.close (tie.spec Inv-loop μ-loop (λ c. search needs) (λ c. search needs) (λ c. search needs) (λ c. search needs)
+    (λ c. search needs) (λ c. search needs) (λ c. search needs) (λ c. search needs))

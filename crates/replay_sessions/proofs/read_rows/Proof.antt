@@ -1,16 +1,16 @@
--- `read_rows` ends with the rows, and the buffer keeps its length.
-use lib.ListN.{length}
+-- `read_rows` ends with the rows, and the place that follows stays inside the text.
 use mathlib.Core.Path.{_≡_}
-use Prim.Native.Nat.{_-_}
+use Prim.Native.Nat.{_≤_, _-_}
 use borrow.Author.Needs.{needs}
+use lib.ListN.{length}
 use Rattle.replay_sessions.proofs.read_rows.Statement.{statement}
 use Rattle.replay_sessions.proofs.read_rows.Tie as tie
 
 abbrev Inv-loop : tie.InvT-loop
-Inv-loop lengths₀ rows cols i₀ lengths i = length lengths ≡ length lengths₀
+Inv-loop text at rows cols lengths₀ next₀ i₀ lengths next i = (length lengths ≡ length lengths₀) × (at ≤ next) × (next ≤ length text)
 
 abbrev μ-loop : tie.MeasureT-loop
-μ-loop lengths₀ rows cols i₀ lengths i = rows - i
+μ-loop text at rows cols lengths₀ next₀ i₀ lengths next i = rows - i
 
 pub read-rows-spec : {M : Type 1} → statement M
 read-rows-spec =

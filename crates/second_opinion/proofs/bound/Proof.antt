@@ -1,4 +1,4 @@
--- `bound` ends with the pieces.
+-- `second_opinion::bound` is safe and ends: `p - k` falls at each turn.
 use Prim.Native.Nat.{_-_}
 use borrow.Author.Needs.{needs}
 use Rattle.second_opinion.proofs.bound.Statement.{statement}
@@ -13,4 +13,5 @@ abbrev μ-loop : tie.MeasureT-loop
 pub bound-spec : {M : Type 1} → statement M
 bound-spec =
     tie.close (tie.spec Inv-loop μ-loop (λ c. search needs) (λ c κs. search needs) (λ c κs. search needs) (λ c κs. search needs)
-    (λ c κs. search needs) (λ c. search needs) (λ c. search needs) (λ c. search needs) (λ c κs. search needs) (λ c. search needs))
+    (λ c κs. search needs) (λ c. search needs) (λ c. search needs) (λ c. search needs) (λ c κs. search needs)
+    (λ c. search needs))

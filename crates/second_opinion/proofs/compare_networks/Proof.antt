@@ -1,7 +1,7 @@
--- `compare_networks` ends with the networks, and the tally keeps its length.
-use borrow.Author.Needs.{needs}
+-- `second_opinion::compare_networks` is safe and ends: `2000 - number` falls at each turn.
 use mathlib.Core.Path.{_≡_}
 use Prim.Native.Nat.{_-_}
+use borrow.Author.Needs.{needs}
 use lib.ListN.{length}
 use Rattle.second_opinion.proofs.compare_networks.Statement.{statement}
 use Rattle.second_opinion.proofs.compare_networks.Tie as tie
@@ -10,7 +10,7 @@ abbrev Inv-loop : tie.InvT-loop
 Inv-loop tally₀ number₀ tally number = length tally ≡ length tally₀
 
 abbrev μ-loop : tie.MeasureT-loop
-μ-loop tally₀ number₀ tally number = 4000 - number
+μ-loop tally₀ number₀ tally number = 2000 - number
 
 pub compare-networks-spec : {M : Type 1} → statement M
 compare-networks-spec =

@@ -1,4 +1,4 @@
--- `logarithm` ends: the exponent stays within 31.
+-- `second_opinion::logarithm` is safe and ends: `31 - e` falls at each turn.
 use Prim.Native.Nat.{_-_}
 use borrow.Author.Needs.{needs}
 use Rattle.second_opinion.proofs.logarithm.Statement.{statement}

@@ -1,4 +1,4 @@
--- `second_opinion::dijkstra::label_plainly` is safe and ends: `n - reached` falls at each turn.
+-- `second_opinion::dijkstra::label_plainly` is safe and ends: `reached-end - reached` falls at each turn.
 use mathlib.Core.Path.{_≡_}
 use Prim.Native.Nat.{_-_}
 use borrow.Author.Needs.{needs}
@@ -7,11 +7,10 @@ use Rattle.second_opinion.proofs.dijkstra.label_plainly.Statement.{stat
 use Rattle.second_opinion.proofs.dijkstra.label_plainly.Tie as tie
 
 abbrev Inv-loop : tie.InvT-loop
-Inv-loop n p sizes vertices lengths source distances₀ settled₀ reached₀ distances settled reached =
-    (length distances ≡ length distances₀) × (length settled ≡ 256)
+Inv-loop shape sizes vertices lengths source distances₀ settled₀ reached₀ reached-end distances settled reached = (length distances ≡ length distances₀) × (length settled ≡ 256)
 
 abbrev μ-loop : tie.MeasureT-loop
-μ-loop n p sizes vertices lengths source distances₀ settled₀ reached₀ distances settled reached = n - reached
+μ-loop shape sizes vertices lengths source distances₀ settled₀ reached₀ reached-end distances settled reached = reached-end - reached
 
 pub label-plainly-spec : {M : Type 1} → statement M
 label-plainly-spec =

@@ -1,4 +1,4 @@
--- `second_opinion::dijkstra::relax_row` is safe and ends: `m - j` falls at each turn.
+-- `second_opinion::dijkstra::relax_row` is safe and ends: `j-end - j` falls at each turn.
 use mathlib.Core.Path.{_≡_}
 use Prim.Native.Nat.{_-_}
 use borrow.Author.Needs.{needs}
@@ -7,13 +7,14 @@ use Rattle.second_opinion.proofs.dijkstra.relax_row.Statement.{statemen
 use Rattle.second_opinion.proofs.dijkstra.relax_row.Tie as tie
 
 abbrev Inv-loop : tie.InvT-loop
-Inv-loop vertices lengths k m i label distances₀ j₀ distances j = length distances ≡ length distances₀
+Inv-loop sizes vertices lengths place v label distances₀ k j₀ j-end distances j = length distances ≡ length distances₀
 
 abbrev μ-loop : tie.MeasureT-loop
-μ-loop vertices lengths k m i label distances₀ j₀ distances j = m - j
+μ-loop sizes vertices lengths place v label distances₀ k j₀ j-end distances j = j-end - j
 
 pub relax-row-spec : {M : Type 1} → statement M
 relax-row-spec =
-    tie.close (tie.spec Inv-loop μ-loop (λ c. search needs) (λ c κs. search needs) (λ c κs. search needs) (λ c κs. search needs)
-    (λ c κs. search needs) (λ c κs. search needs) (λ c κs. search needs) (λ c κs. search needs) (λ c. search needs) (λ c. search needs)
-    (λ c. search needs) (λ c. search needs) (λ c. search needs))
+    tie.close (tie.spec Inv-loop μ-loop (λ c κs. search needs) (λ c. search needs) (λ c κs. search needs) (λ c. search needs)
+    (λ c κs. search needs) (λ c κs. search needs) (λ c κs. search needs) (λ c κs. search needs) (λ c κs. search needs)
+    (λ c κs. search needs) (λ c κs. search needs) (λ c. search needs) (λ c. search needs) (λ c. search needs)
+    (λ c. search needs) (λ c. search needs))

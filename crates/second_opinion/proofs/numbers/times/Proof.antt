@@ -14,4 +14,4 @@ mul-x c =
 
 pub times-spec : {M : Type 1} → statement M
 times-spec =
-    tie.close (tie.spec mul-x (λ c. search needs) (λ c. search needs) (λ c. search needs))
+    tie.close (tie.spec mul-x (λ c. search needs) (λ c. search needs) (λ c. search needs) (λ c. search needs))

@@ -7,10 +7,10 @@ use Rattle.second_opinion.proofs.numbers.up_to.Statement.{statement}
 use Rattle.second_opinion.proofs.numbers.up_to.Tie as tie
 
 cast-result : tie.Need-cast-result
-cast-result c = omega (arith, mod-lt (c .advance .result) {m = c .before .before .args .most + 1} (omega arith))
+cast-result c = omega (arith, mod-lt (c .advance .result) {m = c .before .before .args .top + 1} (omega arith))
 
 returns : tie.Need-returns
-returns c = omega (arith, mod-lt (c .advance .result) {m = c .before .before .args .most + 1} (omega arith))
+returns c = omega (arith, mod-lt (c .advance .result) {m = c .before .before .args .top + 1} (omega arith))
 
 pub up-to-spec : {M : Type 1} → statement M
 up-to-spec =

@@ -7,10 +7,10 @@ use Rattle.second_opinion.proofs.tables.fill_random.Statement.{statemen
 use Rattle.second_opinion.proofs.tables.fill_random.Tie as tie
 
 abbrev Inv-loop : tie.InvT-loop
-Inv-loop seed₀ most s₀ i₀ seed s i = (length s ≡ length s₀) × (i ≤ length s₀)
+Inv-loop seed₀ top s₀ i₀ seed s i = (length s ≡ length s₀) × (i ≤ length s₀)
 
 abbrev μ-loop : tie.MeasureT-loop
-μ-loop seed₀ most s₀ i₀ seed s i = length s₀ - i
+μ-loop seed₀ top s₀ i₀ seed s i = length s₀ - i
 
 pub fill-random-spec : {M : Type 1} → statement M
 fill-random-spec =
