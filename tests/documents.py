@@ -90,7 +90,7 @@ def spec_names(text):
     names = set()
     for line in text.splitlines():
         line = re.sub(r"^\s*((pub|abbrev|unfoldable) )*", "", line)
-        named = re.match(r"(?:record|data) (\S+)|(?!--)([^:(){}=]+) :(?: |$)", line)
+        named = re.match(r"(?:record|data) ([^\s{]+)|(?!--|let )([^:(){}=]+) :(?: |$)", line)
         names.update((named[1] or named[2]).split() if named else [])
     return names
 
@@ -215,15 +215,22 @@ def check_relations():
                 fault(f"{RELATIONS}:{number}", f"{path} is no file")
 
 
+def public_functions(folder):
+    """Those of a library's root and of its public modules, and those that it hands on by `pub use`."""
+    root = "".join(path.read_text() for path in folder.glob("src/lib.rt"))
+    modules = [(folder / f"src/{name}.rt").read_text() for name in re.findall(r"^pub mod (\w+);", root, re.M)]
+    handed_on = " ".join(re.findall(r"^pub use ([^;]+);", root, re.M))
+    own = re.findall(r'^ *pub (?:extern "C" )?fn (\w+)', "\n".join([root, *modules]), re.M)
+    return {*own, *re.findall(r"\b[a-z]\w*\b(?!::)", handed_on)}
+
+
 def check_claims(cited):
     """Every must-fail edit and every public function is named in the claims."""
     for crate, edit in sorted(EDITS - cited):
         fault(CLAIMS, f"the must-fail edit {crate}/{edit} is not named")
     named = {name.split("::")[-1] for start, cell in cells(CLAIMS) for _, name in names_in(start, cell)}
     for folder in FOLDERS:
-        text = "".join(path.read_text() for path in folder.glob("src/lib.rt"))
-        public = re.findall(r'^ *pub (?:(?:extern "C" )?fn|use \w+::)(?: |)(\w+)', text, re.M)
-        for name in sorted(set(public) - named):
+        for name in sorted(public_functions(folder) - named):
             fault(CLAIMS, f"the public function {folder.name}::{name} is not named")
 
 

@@ -55,7 +55,7 @@ extern "C" {
 #define RABDZHINE_UNREACHED UINT32_C(4294967295)
 
 /*
- * The stack that a call of each entry may take, in bytes: what was measured and a third or so more. With one page of 4,096 bytes below
+ * The stack that a call of each entry may take, in bytes: a third or so above what was measured, and at least 128. With one page of 4,096 bytes below
  * the stack that cannot be touched, a stack that is too small ends in a fault there, and nothing below is written. An interrupt handler
  * leaves the 128 bytes below the stack pointer as they are (System V ABI), or has a stack of its own.
  */
