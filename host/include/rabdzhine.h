@@ -7,6 +7,9 @@
  * A buffer is lent as a pointer and the number of its elements, which must be readable (and writable unless const) for the call.
  * A pointer is never null. A buffer that an entry writes overlaps no other of that call. Nothing is kept after a call, nothing is allocated.
  *
+ * The library needs memcpy and memset of whoever links it, and a stack of the size stated below for the entry that is called. It has no
+ * memory of its own that can be written, so entries may be called at the same time, each on its own stack and buffers.
+ *
  * Words: a vertex is a gate, a piece is a district, to activate is to tell, to extract is to take, a parent is an owner,
  * inserted is brought in, removed is dropped.
  *
@@ -50,6 +53,19 @@ extern "C" {
 
 /* The label of a gate that no run reaches, and of a place above n. */
 #define RABDZHINE_UNREACHED UINT32_C(4294967295)
+
+/*
+ * The stack that a call of each entry may take, in bytes: a third or so above what was measured, and at least 128. With one page of 4,096 bytes below
+ * the stack that cannot be touched, a stack that is too small ends in a fault there, and nothing below is written. An interrupt handler
+ * leaves the 128 bytes below the stack pointer as they are (System V ABI), or has a stack of its own.
+ */
+#define RABDZHINE_STACK_READ_FIELD 128
+#define RABDZHINE_STACK_WRITE_FIELD 128
+#define RABDZHINE_STACK_READ_TEXT 5120
+#define RABDZHINE_STACK_CHECK_NETWORK 5120
+#define RABDZHINE_STACK_LABEL_NETWORK 180224
+#define RABDZHINE_STACK_RUN_SESSION 7168
+#define RABDZHINE_STACK_WRITE_LISTING 229376
 
 /* On a refusal `number` is its number and the counts are 0. */
 typedef struct {

@@ -53,6 +53,23 @@ pub const LISTING: usize = 4901;
 /// The label of a gate that no run reaches, and of a place above n.
 pub const UNREACHED: u32 = u32::MAX;
 
+// The stack that a call of each entry may take, in bytes, with a margin; `tests/stack` measures it.
+
+/// Bytes of stack for [`read_field`].
+pub const STACK_READ_FIELD: usize = 128;
+/// Bytes of stack for [`write_field`].
+pub const STACK_WRITE_FIELD: usize = 128;
+/// Bytes of stack for [`read_text`].
+pub const STACK_READ_TEXT: usize = 5120;
+/// Bytes of stack for [`check_network`].
+pub const STACK_CHECK_NETWORK: usize = 5120;
+/// Bytes of stack for [`label_network`].
+pub const STACK_LABEL_NETWORK: usize = 180_224;
+/// Bytes of stack for [`run_session`].
+pub const STACK_RUN_SESSION: usize = 7168;
+/// Bytes of stack for [`write_listing`].
+pub const STACK_WRITE_LISTING: usize = 229_376;
+
 /// What the text reader returns. On a refusal all but `number` is 0.
 #[repr(C)]
 #[derive(Clone, Copy, Debug, PartialEq, Eq)]

@@ -1,4 +1,6 @@
-// Reads a plan from standard input and writes its listing, or the line of its refusal.
+// Reads a plan from standard input and writes its listing, or the line of its refusal. A program has no exit status to give, so a
+// listing that could not be written whole, as on a full disk, is told on standard error.
+use libc::STDERR_FILENO;
 use libc::STDIN_FILENO;
 use libc::STDOUT_FILENO;
 
@@ -7,5 +9,10 @@ fn main() {
     let mut out = [0u8; answer::LISTING_BYTES];
     let read = io::read_full(STDIN_FILENO, &mut input);
     let written = answer::list_input(&input, read, &mut out);
-    io::write_all(STDOUT_FILENO, &out[..written]);
+    if !io::write_all(STDOUT_FILENO, &out[..written]) {
+        io::write_all(
+            STDERR_FILENO,
+            b"labels: the listing could not be written whole\n",
+        );
+    }
 }

@@ -20,4 +20,4 @@ slice-aggregate-write-all c =
 pub main-spec : {M : Type 1} → statement M
 main-spec =
     tie.close (tie.spec (search needs) (search needs) (search needs) (search needs) array-share-prefix-out slice-aggregate-write-all
-    (search needs) (search needs))
+    (search needs) (search needs) (search needs) (search needs) (search needs))
