@@ -208,8 +208,8 @@ def check_relations():
         for name in re.findall(r"\w+", listed[1]) if listed else []:
             name = stem + name if name in ("Leaves", "Keeps") else name
             stem = re.sub("(Needs|Leaves|Keeps|Given)$", "", name)
-            if not spec_has(TOP / "crates/engine", name):
-                fault(f"{RELATIONS}:{number}", f"{name} is not defined in engine")
+            if not any(spec_has(TOP / "crates" / crate, name) for crate in ("engine", "definitions")):
+                fault(f"{RELATIONS}:{number}", f"{name} is not defined in engine or definitions")
         for path in re.findall(r"[A-Z]\w+/\w+", line):
             if not place_of(path, RELATIONS):
                 fault(f"{RELATIONS}:{number}", f"{path} is no file")

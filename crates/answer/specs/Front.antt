@@ -11,7 +11,7 @@ use borrow.Author.Tests.{lt-leb}
 use lib.ListN.{length, take}
 use lib.Seq.{length-take-le, take-all}
 use Rattle.definitions.specs.Limits.{maxText}
-use Rattle.definitions.specs.Text.{judgeLength, readText}
+use Rattle.definitions.specs.Reading.{judgeLength, readText}
 use Rattle.definitions.specs.Entries.{refusalLine, planListing, listing, writeListing}
 use Rattle.logic.specs.Tests.{split-at}
 

@@ -18,9 +18,9 @@ use Rattle.definitions.specs.Limits.{maxVertices, sizePlaces, vertexPlaces, len
 use Rattle.definitions.specs.Lists.{upFrom, firstCause, Every}
 use Rattle.definitions.specs.Blocks.{blocks}
 use Rattle.definitions.specs.Labelling.{State, labelOf, labelling, heldLabel, labels}
-use Rattle.definitions.specs.Reading.{Read, refused, value, require, Plan, readPlan}
+use Rattle.definitions.specs.Reading.{Read, refused, value, require, Plan, readPlan, judgeLength, readText}
 use Rattle.definitions.specs.Laws.LineProofs.{text-read}
-use Rattle.definitions.specs.Text.{judgeLength, readText, sizesOf, verticesOf, lengthsOf}
+use Rattle.definitions.specs.Text.{sizesOf, verticesOf, lengthsOf}
 use Rattle.definitions.specs.Entries.{AfterRead, AfterLabel, hasPlaces, judgeBuffers, readRefusal, afterRead, reading, judgeLabelling, labelAnswer, labelNetwork, listingLine, refusalLine, stateListing, planListing, listing, listingPlaces, AfterListing, writeListing}
 use Rattle.definitions.specs.Laws.Members.{every-imp}
 use Rattle.definitions.specs.Laws.Causes.{bounds-in}

@@ -10,8 +10,7 @@ use Rattle.definitions.specs.Lists.{total}
 use Rattle.definitions.specs.Network.{Piece}
 use Rattle.definitions.specs.Judgement.{judgeBounds, judgeSize, judgeVertices, judgeRow, judgeBlocks, judgeSource}
 use Rattle.definitions.specs.Fields.{fieldBytes, fieldAt, lengthAt}
-use Rattle.definitions.specs.Reading.{FieldReading, Read, refused, value, _>>=_, require, readField, readFields, judgeLineEnd, readLine, lineBytes, readRows, readPiece, pieceBytes, readPieces, judgeEnd, readBody, readPlan}
-use Rattle.definitions.specs.Text.{judgeLength, readText}
+use Rattle.definitions.specs.Reading.{FieldReading, Read, refused, value, _>>=_, require, readField, readFields, judgeLineEnd, readLine, lineBytes, readRows, readPiece, pieceBytes, readPieces, judgeEnd, readBody, readPlan, judgeLength, readText}
 
 abbrev pub Numbered : {A : Type 0} → Read A → Type 0
 Numbered (refused k) = 1 ≤ k

@@ -7,6 +7,7 @@
 use mathlib.Core.Path.{_≡_}
 use mathlib.Core.Bool.{Bool, true, false}
 use mathlib.Core.List.{List, [], _∷_, _++_, map}
+use mathlib.Core.Logic.{_↔_}
 use Prim.Native.Nat.{ℕ, zero, suc, _+_, _-_, _*_, _/_}
 use lib.Dec.{ltb}
 use lib.ListN.{getD, length}
@@ -102,8 +103,7 @@ unfoldable pub passes : Block → Bool
 passes b = isMonge (b .lengths) (length (b .rows)) (length (b .cols))
 
 -- It passes exactly if the inequality holds of all its neighbouring rows and columns.
-pub passes-exactly : (b : Block)
-    → (passes b ≡ true → Monge (b .lengths) (length (b .rows)) (length (b .cols))) × (Monge (b .lengths) (length (b .rows)) (length (b .cols)) → passes b ≡ true)
+pub passes-exactly : (b : Block) → passes b ≡ true ↔ Monge (b .lengths) (length (b .rows)) (length (b .cols))
 unfolding passes
 passes-exactly b = (isMonge-is (b .lengths) (length (b .rows)) (length (b .cols)), isMonge-from (b .lengths) (length (b .rows)) (length (b .cols)))
 

@@ -25,8 +25,8 @@ use Rattle.definitions.specs.Model.{intervals, Call, Answer, trace}
 use Rattle.definitions.specs.Labelling.{State, labelOf, labelling, reached, extractions, insertions, heldLabel, labels}
 use Rattle.definitions.specs.Judgement.{judgeSource, piecesOf, judgeNetwork}
 use Rattle.definitions.specs.Fields.{blank, lineEnd, fieldAt, decimal, nineColumns}
-use Rattle.definitions.specs.Reading.{Read, refused, value, Plan, readPlan}
-use Rattle.definitions.specs.Text.{judgeLength, readText, sizesOf, verticesOf, lengthsOf}
+use Rattle.definitions.specs.Reading.{Read, refused, value, Plan, readPlan, judgeLength, readText}
+use Rattle.definitions.specs.Text.{sizesOf, verticesOf, lengthsOf}
 
 -- a lent buffer has its size; if not, the cause is 1
 unfoldable pub hasPlaces : ℕ → List ℕ → Bool

@@ -16,8 +16,8 @@ use Rattle.definitions.specs.Model.{through, parent, available, interval
 use Rattle.definitions.specs.Labelling.{freshBlock, apply, leastOf, placeOf, activateAt, activateVertex, labelOf, settleAs, settle, chosen, placeIn, extractFrom, advance, steps, start, columns, labelling, reached, extractions, insertions, heldLabel, labels}
 use Rattle.definitions.specs.Judgement.{judgeBounds, judgeSize, judgeVertices, judgeRow, judgeRows, judgeBlocks, judgeSource, judgePiece, pieceAt, piecesOf, judgeFrom, judgeNetwork}
 use Rattle.definitions.specs.Fields.{isDigit, skipBlanks, isNumeral, numeralValue, fieldOf, fieldAt, lengthAt, digitsOf, decimal, rightJustified, nineColumns}
-use Rattle.definitions.specs.Reading.{Read, refused, value, Plan, readField, readFields, judgeLineEnd, readLine, readRows, readPiece, pieceBytes, readPieces, judgeEnd, readBody, readPlan}
-use Rattle.definitions.specs.Text.{judgeLength, readText, sizesOf, verticesOf, tableOf, lengthsOf}
+use Rattle.definitions.specs.Reading.{Read, refused, value, Plan, readField, readFields, judgeLineEnd, readLine, readRows, readPiece, pieceBytes, readPieces, judgeEnd, readBody, readPlan, judgeLength, readText}
+use Rattle.definitions.specs.Text.{sizesOf, verticesOf, tableOf, lengthsOf}
 use Rattle.definitions.specs.Entries.{AfterRead, AfterLabel, AfterSession, hasPlaces, judgeBuffers, afterRead, reading, judgeLabelling, labelAnswer, labelNetwork, rectangleOf, judgeSession, callAt, callsOf, answersOf, intervalsOf, session, listingLine, refusalLine, stateListing, planListing, listing}
 
 -- ---- the texts
@@ -31,7 +31,7 @@ bytes (c before cs) = code c ∷ bytes cs
 depot : String → List ℕ
 depot question = bytes "     5     1\n     4     1     2     3     4\n     0     3     7     5\n     3     0     4     6\n     7     4     0     2\n     5     6     2     0\n" ++ bytes question
 
--- the same with 100000 for the length from gate 1 to gate 2
+-- the same with 100000 for the length from vertex 1 to vertex 2
 tooLong : List ℕ
 tooLong = bytes "     5     1\n     4     1     2     3     4\n     0100000     7     5\n     3     0     4     6\n     7     4     0     2\n     5     6     2     0\n     1\n"
 
@@ -60,15 +60,15 @@ pub data Example : Type 0 where
 pub data Shown : Type 0 where
   -- the bytes written
   writes : List ℕ → Shown
-  -- gates reached, takes, intervals brought in
+  -- vertices reached, columns extracted, intervals inserted
   counts : ℕ → ℕ → ℕ → Shown
   -- the reader's number, n, p and source, and its three buffers
   fills : ℕ → ℕ → ℕ → ℕ → List ℕ → List ℕ → List ℕ → Shown
-  -- gates reached, takes, intervals brought in, and the label buffer
+  -- the same, and the label buffer
   lists : ℕ → ℕ → ℕ → List ℕ → Shown
-  -- the gates of a block's rows and of its columns, and its entries row by row
+  -- the vertices of a block's rows and of its columns, and its entries row by row
   shows : List ℕ → List ℕ → List (List ℕ) → Shown
-  -- a session's number, its answer buffer and its interval buffer, brought in and dropped
+  -- a session's number, its answer buffer and its interval buffer, inserted and removed
   leaves : ℕ → List ℕ → List ℕ → ℕ → ℕ → Shown
   -- refused by a number
   refuses : ℕ → Shown
@@ -135,7 +135,7 @@ extraction = 2 ∷ 0 ∷ 0 ∷ []
 done : List ℕ → List ℕ → ℕ → ℕ → Shown
 done answers kept inserted removed = leaves 0 (padded answerPlaces 0 answers) (padded intervalPlaces unusedInterval kept) inserted removed
 
--- a session on P3's block, accepted: calls; answers, kept intervals, brought in, dropped
+-- a session on P3's block, accepted: calls; answers, kept intervals, inserted, removed
 onBlock : ℕ → List (List ℕ) → List ℕ → List ℕ → ℕ → ℕ → Row
 onBlock p ks answers kept inserted removed = row p (calls (5 ∷ 7 ∷ []) (6 ∷ 4 ∷ []) ks) (done answers kept inserted removed)
 

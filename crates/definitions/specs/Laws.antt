@@ -2,7 +2,8 @@
 --   MongeLaws                                 of `passes` in the file Blocks
 --   LeastLaws                                 of `leastLeft` in the file Model
 --   RunProofs RunLaws                         of `intervals` in the file Model
---   FieldProofs FieldBack LineProofs LineBack of `readPlan` in the file Text: from a text to its plan, and back; for one field, for all lines
+--   FieldProofs LineProofs FieldBack LineBack of `readText` in the file Text: from a text to its plan, and back; for one field, for all lines
+--   TextLaws                                  the same, of the whole text
 --   Members Causes ReadLaws                   parts of these: members of lists, causes that are 0, what was read taken apart
 pub mod Members
 pub mod Causes
@@ -15,3 +16,4 @@ pub mod FieldProofs
 pub mod FieldBack
 pub mod LineProofs
 pub mod LineBack
+pub mod TextLaws

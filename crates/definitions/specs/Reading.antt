@@ -2,13 +2,14 @@
 --   Read require                          refused by a number, or read
 --   FieldReading readFields readLine      a line's layout: its fields, of one kind, and one byte 10
 --   readRows readPiece readPieces         pieces, judged as they are read
---   Plan readBody readPlan                the whole text
+--   Plan readBody readPlan readText       the whole text, its length judged first
 -- Each part is read at its place in the text: that of the part before it plus the bytes of that part.
 use mathlib.Core.Bool.{cond}
 use mathlib.Core.List.{List, [], _∷_, map}
 use Prim.Native.Nat.{ℕ, zero, suc, _+_, _*_}
-use lib.Dec.{eqb}
+use lib.Dec.{eqb, leb}
 use lib.ListN.{getD, length}
+use Rattle.definitions.specs.Limits.{maxText}
 use Rattle.definitions.specs.Lists.{total}
 use Rattle.definitions.specs.Network.{Piece, sizeOf}
 use Rattle.definitions.specs.Judgement.{judgeBounds, judgeSize, judgeVertices, judgeRow, judgeBlocks, judgeSource}
@@ -121,3 +122,13 @@ unfoldable pub readPlan : List ℕ → Read Plan
 readPlan text = do
   first ← readLine fieldAt text 0 2
   readBody text (getD first 0 0) (getD first 1 0)
+
+-- more bytes than a text may have
+unfoldable pub judgeLength : List ℕ → ℕ
+judgeLength text = cond (leb (length text) maxText) 0 2
+
+-- its length is judged before a byte of it is looked at
+unfoldable pub readText : List ℕ → Read Plan
+readText text = do
+  _ ← require (judgeLength text)
+  readPlan text

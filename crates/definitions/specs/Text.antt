@@ -1,35 +1,21 @@
 -- Document 01, "Text layout": what an accepted text is, and what the reader leaves of it in the lent buffers.
 --   accepted-exactly                 what reading comes to: a text is accepted exactly if it is the lines of a plan that no cause turns away
---   judgeLength readText             the whole text, its length judged first
 --   sizesOf verticesOf lengthsOf     what the reader leaves in the lent buffers
 use mathlib.Core.Path.{_≡_}
-use mathlib.Core.Bool.{cond}
 use mathlib.Core.List.{List, map, flatMap}
-use Prim.Native.Nat.{ℕ}
-use lib.Dec.{leb}
+use mathlib.Core.Logic.{_↔_}
+use Prim.Native.Nat.{ℕ, _≤_}
 use lib.ListN.{length}
 use Rattle.definitions.specs.Limits.{maxText, sizePlaces, vertexPlaces, lengthPlaces, rowPlaces, tablePlaces}
 use Rattle.definitions.specs.Lists.{padded}
 use Rattle.definitions.specs.Network.{Piece, sizeOf}
-use Rattle.definitions.specs.Reading.{Read, _>>=_, require, value, Plan, readPlan}
+use Rattle.definitions.specs.Reading.{value, Plan, readText}
 use Rattle.definitions.specs.Written.{written, SoundPlan}
-use Rattle.definitions.specs.Laws.LineProofs.{text-read}
-use Rattle.definitions.specs.Laws.LineBack.{text-back}
+use Rattle.definitions.specs.Laws.TextLaws.{accepted-is, accepted-back}
 
 -- Exactly the lines of a sound plan, one after the other: no place in the text has to be reckoned to say so.
-pub accepted-exactly : (text : List ℕ) (plan : Plan)
-    → (readPlan text ≡ value plan → SoundPlan plan × (text ≡ written plan)) × (SoundPlan plan × (text ≡ written plan) → readPlan text ≡ value plan)
-accepted-exactly text plan = (text-read text plan, λ h. rw (h .1) (text-back plan (h .0)))
-
--- more bytes than a text may have
-unfoldable pub judgeLength : List ℕ → ℕ
-judgeLength text = cond (leb (length text) maxText) 0 2
-
--- its length is judged before a byte of it is looked at
-unfoldable pub readText : List ℕ → Read Plan
-readText text = do
-  _ ← require (judgeLength text)
-  readPlan text
+pub accepted-exactly : (text : List ℕ) (plan : Plan) → readText text ≡ value plan ↔ (length text ≤ maxText) × SoundPlan plan × (text ≡ written plan)
+accepted-exactly text plan = (accepted-is text plan, accepted-back text plan)
 
 -- ---- the lent buffers
 

@@ -1,3 +1,3 @@
--- What the checks of lent places answer, and their laws.
+-- What the judgements of lent places answer, and their laws.
 pub mod LentPieces
 pub mod PieceJudgement

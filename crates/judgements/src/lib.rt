@@ -1,4 +1,4 @@
-// The checks of document 01 on a piece and on a network, each of which answers 0 or the number of the cause.
+// The judgements of document 01 on a piece and on a network, each of which answers 0 or the number of the cause.
 ghost use mathlib.Core.Path.{_≡_};
 ghost use mathlib.Core.List.{[], _∷_};
 ghost use Prim.Native.Nat.{_≤_};

@@ -16,8 +16,7 @@ use Rattle.definitions.specs.Lists.{total, firstCause}
 use Rattle.definitions.specs.Network.{Piece}
 use Rattle.definitions.specs.Judgement.{judgeBounds, judgeSource}
 use Rattle.definitions.specs.Fields.{fieldAt}
-use Rattle.definitions.specs.Reading.{Read, refused, value, _>>=_, require, readLine, lineBytes, pieceBytes, readPieces, Plan, judgeEnd, readBody, readPlan}
-use Rattle.definitions.specs.Text.{judgeLength}
+use Rattle.definitions.specs.Reading.{Read, refused, value, _>>=_, require, readLine, lineBytes, pieceBytes, readPieces, Plan, judgeEnd, readBody, readPlan, judgeLength}
 use Rattle.definitions.specs.Entries.{AfterRead, judgeBuffers, readRefusal, afterRead, reading}
 use Rattle.text.specs.Outcomes.{Came}
 use Rattle.text.specs.ReadSteps.{require-stop}

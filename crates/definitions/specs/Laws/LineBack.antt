@@ -1,4 +1,4 @@
--- From a plan that no cause turns away to its text, which is read back: the other half of `accepted-exactly` in the file Text.
+-- From a plan that no cause turns away to its text, which is read back: part of `accepted-exactly` in the file Text.
 --   Small                           numbers that have room in their fields
 --   behind                          the text behind bytes that stand at a place
 --   fields-back line-back           fields and a line that stand at a place are read there

@@ -1,4 +1,4 @@
--- From a text that was read to its lines, and to a plan that no cause turns away: half of `accepted-exactly` in the file Text.
+-- From a text that was read to its lines, and to a plan that no cause turns away: part of `accepted-exactly` in the file Text.
 --   Stands                    bytes from a place of the text on, and the rest of the text behind them
 --   field-at .. line-written  fields and lines that were read stand there as they are written
 --   rows-read .. body-read    so do rows, pieces and all that follows the first line, and they have been judged

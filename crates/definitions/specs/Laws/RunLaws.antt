@@ -2,6 +2,7 @@
 --   runs-are-longest          an interval is among the runs exactly if it is a longest run
 use mathlib.Core.Path.{_≡_}
 use mathlib.Core.Bool.{true}
+use mathlib.Core.Logic.{_↔_}
 use Prim.Native.Nat.{ℕ, suc, pred}
 use native.Mathlib.Omega.{arith}
 use Rattle.definitions.specs.Best.{Best}
@@ -34,5 +35,5 @@ tagged w n p f l r = record {
 
 -- exactly the longest runs
 pub runs-are-longest : (w : ℕ → Best) (n p f l : ℕ)
-    → (isKept (interval p f l) (runs w 0 n) ≡ true → LongestRun w n p f l) × (LongestRun w n p f l → isKept (interval p f l) (runs w 0 n) ≡ true)
+    → isKept (interval p f l) (runs w 0 n) ≡ true ↔ LongestRun w n p f l
 runs-are-longest w n p f l = (λ k. plain w n p f l (kept-every (Longest w 0 n) (interval p f l) (runs w 0 n) (runs-longest w 0 n) k), λ r. run-kept w 0 n p f l (tagged w n p f l r))
