@@ -234,6 +234,17 @@ def check_claims(cited):
             fault(CLAIMS, f"the public function {folder.name}::{name} is not named")
 
 
+def check_spec_files():
+    """No two crates have a spec file of the same name, so that a name alone says which is meant."""
+    held = {}
+    for path in SPECS:
+        if path.stem != "Lib":
+            held.setdefault(path.stem, []).append(str(path.relative_to(TOP)))
+    for name, paths in sorted(held.items()):
+        if len(paths) > 1:
+            fault(paths[0], f"{paths[1]} has the same name, {name}")
+
+
 def check_crates():
     listed = re.findall(r"`(\w+)`", " ".join(row[0] for row in rows(README, "| crate |")))
     for crate in sorted(set(listed) ^ set(CRATES)):
@@ -287,6 +298,7 @@ def main():
         if document == CLAIMS:
             check_claims(cited)
     check_relations()
+    check_spec_files()
     check_crates()
     check_bounds()
     causes = [f"Cause.{name}" for name in vars(CONSTANTS["Cause"])]

@@ -2,13 +2,13 @@
 -- A relation that belongs to a function f is named after it: FNeeds is what f needs, FLeaves what it leaves, FKeeps what its loop keeps. Needs say that some
 -- model fits the arrays; Leaves hold for every model that fitted them. A relation of a state has a name of its own.
 --
--- The arrays as values (`Labelling/State`, `Labelling/StepLoop`)
+-- The arrays as values (`Labeller/State`, `Labeller/StepLoop`)
 --   Tables                the matrix, and the one array of prepared numbers: they stay
 --   Heaps                 the tables, the labels of all rows, and the words of all heaps
 --   Arrays                the heaps, and the tournament of the blocks
 --   Store                 the arrays, and the labels of the vertices
 --
--- The labelling: all arrays against the definition's state (`Labelling/StepLoop`)
+-- The labelling: all arrays against the definition's state (`Labeller/StepLoop`)
 --   IsLabelling           the answer and the labels are those of the definition's labelling
 --   LabelAllGiven         the tables are those of given pieces, the heaps are fresh, the label buffer is blank
 --   LabelAllNeeds Leaves  for some pieces, with a source; the answer and the labels are the labelling, for all pieces
@@ -18,7 +18,7 @@
 --   Underway              the tables are those of given pieces, and the store holds the definition's state after as many steps as the answer counts
 --   AfterSteps            the store holds the definition's state after k steps
 --
--- A vertex (`Labelling/Extractions`, `Labelling/Vertices`, `Labelling/Settling`, `Labelling/Mapped`)
+-- A vertex (`Labeller/Extractions`, `Labeller/Vertices`, `Labeller/Settling`, `Labeller/Mapped`)
 --   ExtractNeeds Leaves   some blocks whose columns are in the tables; the column of least sum of all blocks is extracted, or there is none
 --   Stepped               which of the two, by the function's answer
 --   VertexExtracted       the block and the column, and that the column's vertex is the one that is answered
@@ -30,7 +30,7 @@
 --   PieceDone             the states when one piece is done
 --   Mapped MappedPiece    the tables are those of given pieces; of one piece
 --
--- A place of a piece (`Labelling/Activations`, `Labelling/Descent`, `Labelling/Halves`)
+-- A place of a piece (`Labeller/Activations`, `Labeller/Descent`, `Labeller/Halves`)
 --   ActivatePlaceNeeds Leaves Keeps    a place that can be activated; it is activated in the blocks of its piece; in those of the levels so far
 --   SpotReady             the vertex stands at the place, its label too, and no activation is refused
 --   PlaceActivated        the states afterwards
@@ -38,7 +38,7 @@
 --   Stands                a vertex stands at a place of a piece, whose blocks are those of given states
 --   Halved Level Misses   the half that has the place; its window among those of the piece; a window does not have the place
 --
--- One block (`Labelling/State`, `Labelling/LentHeaps`)
+-- One block (`Labeller/State`, `Labeller/LentHeaps`)
 --   ActivateBlockNeeds Leaves, ExtractBlockNeeds Leaves    a call on a block, with the tournament
 --   ActivateHeapNeeds Leaves, ExtractHeapNeeds Leaves      a call on a block's heap
 --   BlockKeyNeeds Leaves  the key of its least sum
@@ -68,7 +68,7 @@
 --   Accepted Sizes Sides  what a session that is not turned away may rely on; its buffers, its numbers
 --   Front                 so many numbers at each of the first places of a buffer, the rest as it was
 --
--- The heap of one block: its words against the model (`HeldModel` of the definitions, `Heap/HeapCalls`, `Heap/LeastColumn`, `Heap/Best`, `Heap/Holds`)
+-- The heap of one block: its words against the model (`HeldModel` of the definitions, `Heap/HeapCalls`, `Heap/LeastColumn`, `Heap/RowBest`, `Heap/Holds`)
 --   Checked Holds HoldsSome    the block that is lent is checked; the words hold a given model of it; some model
 --   ActivateGiven ActivateNeeds Leaves    the model is held, and the activation is not refused; for some model; the next model is held, for every model
 --   MinExtracted ExtractMinLeaves    the column of least sum is extracted and answered; for every model

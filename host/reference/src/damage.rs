@@ -1,4 +1,4 @@
-//! Texts and networks that are turned away, each with the number of its cause where that is plain from the scope document.
+//! Texts and networks that are turned away, each with the number of its cause where that is plain from document 01.
 
 use crate::network::{Lent, Plan, LENGTHS, ROOM};
 use crate::plans::Rng;

@@ -2,7 +2,7 @@
 
 use std::ops::Range;
 
-// The bounds and the sizes of the lent buffers, as the scope document has them. They are the reference's own: it knows nothing of the
+// The bounds and the sizes of the lent buffers, as document 01 has them. They are the reference's own: it knows nothing of the
 // proved library, so that a wrong number there shows as a difference.
 
 /// The most vertices of a network.

@@ -21,7 +21,7 @@ use Rattle.heap_laws.specs.Lesser.{lesser-nobody, lesser-assoc}
 use Rattle.engine.specs.declared.heap.Lowest.{Lowest}
 use Rattle.engine.specs.declared.heap.Lowest.the-variants.{At, Nothing}
 use Rattle.engine.specs.Heap.Search.{sumAt, In}
-use Rattle.engine.specs.Heap.Best.{IsBest, best-is-row}
+use Rattle.engine.specs.Heap.RowBest.{IsBest, best-is-row}
 use Rattle.engine.specs.Heap.Holds.{run-at, in-order, owned, Where, within, outside, where-is}
 
 abbrev pub bestOf : Lowest → Best

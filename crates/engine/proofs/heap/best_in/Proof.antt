@@ -4,7 +4,7 @@ use mathlib.Core.Logic.{⊎-elim}
 use Prim.Native.Nat.{_-_, _≤_}
 use native.Mathlib.Omega.{arith}
 use Rattle.definitions.specs.HeldModel.{lentEntry}
-use Rattle.engine.specs.Heap.Best.{IsBest, best-first, best-keep, best-lower}
+use Rattle.engine.specs.Heap.RowBest.{IsBest, best-first, best-keep, best-lower}
 use borrow.Author.Needs.{needs}
 use Rattle.engine.proofs.heap.best_in.Statement.{statement}
 use Rattle.engine.proofs.heap.best_in.Tie as tie

@@ -24,8 +24,8 @@ use Rattle.preparation.specs.Stretches.{Stretch, stretch-whole, stretch-fits}
 use Rattle.preparation.specs.BlockRows.{row-inside, row-outside}
 use Rattle.labelling_laws.specs.LoopLaws.{activated-none, activated-one}
 use Rattle.engine.specs.declared.labelling.Half.{Half}
-use Rattle.engine.specs.Labelling.Insertions.{insertedIn, inserted-set}
-use Rattle.engine.specs.Labelling.Halves.{halfOf, Halved, halved, Misses, Level, level}
+use Rattle.engine.specs.Labeller.Insertions.{insertedIn, inserted-set}
+use Rattle.engine.specs.Labeller.Halves.{halfOf, Halved, halved, Misses, Level, level}
 
 -- block j of the piece whose first block is `first`
 abbrev pub blockIn : ℕ → List BlockState → ℕ → BlockState

@@ -33,8 +33,8 @@ use Rattle.engine.specs.Heap.Holds.{sound-of}
 use Rattle.engine.specs.Heap.LeastColumn.{LeastLeaves, bestOf}
 use Rattle.engine.specs.Heap.HeapCalls.{Becomes, ActivateGiven, MinExtracted}
 use Rattle.engine.specs.Tree.TreeWords.{leaves, Key, keyAt, IsTournament, KeyChanged}
-use Rattle.engine.specs.Labelling.State.{Heaps, withWords, heapIn, windowIn, labelsIn, labelAt, numbersIn, BlockLies, HoldsBlock, HoldsBlocks, bests, callAt, CallDone, ExtractionDone}
-use Rattle.engine.specs.Labelling.LentHeaps.{replaced, window-long, lent-heap, lent-rows, lent-labels, back-here, back-other, back-long}
+use Rattle.engine.specs.Labeller.State.{Heaps, withWords, heapIn, windowIn, labelsIn, labelAt, numbersIn, BlockLies, HoldsBlock, HoldsBlocks, bests, callAt, CallDone, ExtractionDone}
+use Rattle.engine.specs.Labeller.LentHeaps.{replaced, window-long, lent-heap, lent-rows, lent-labels, back-here, back-other, back-long}
 
 -- ---- an activation does not raise the least sum
 

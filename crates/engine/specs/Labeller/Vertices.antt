@@ -28,15 +28,15 @@ use Rattle.preparation.specs.Placements.{length-windowsOf}
 use Rattle.preparation.specs.Numbering.{noWindow}
 use Rattle.labelling_laws.specs.VertexPlaces.{place-of}
 use Rattle.labelling_laws.specs.OneBlock.{Welcome}
-use Rattle.engine.specs.Labelling.State.{Tables, Arrays, changed, Running}
-use Rattle.engine.specs.Labelling.Counts.{placeInserts}
-use Rattle.engine.specs.Labelling.BlockCalls.{accepted-is, count-is, block-same}
-use Rattle.engine.specs.Labelling.Begins.{relabelled}
-use Rattle.engine.specs.Labelling.Insertions.{insertedIn}
-use Rattle.engine.specs.Labelling.Descent.{blockIn}
-use Rattle.engine.specs.Labelling.Mapped.{firstOf, MappedPiece, Mapped, first-none, first-all}
-use Rattle.engine.specs.Labelling.Settling.{PieceDone, piece-absent, Partly, partly-begun, partly-more, partly-all}
-use Rattle.engine.specs.Labelling.Activations.{Spot, SpotReady, ActivatePlaceNeeds, ActivatePlaceLeaves}
+use Rattle.engine.specs.Labeller.State.{Tables, Arrays, changed, Running}
+use Rattle.engine.specs.Labeller.Counts.{placeInserts}
+use Rattle.engine.specs.Labeller.BlockCalls.{accepted-is, count-is, block-same}
+use Rattle.engine.specs.Labeller.Begins.{relabelled}
+use Rattle.engine.specs.Labeller.Insertions.{insertedIn}
+use Rattle.engine.specs.Labeller.Descent.{blockIn}
+use Rattle.engine.specs.Labeller.Mapped.{firstOf, MappedPiece, Mapped, first-none, first-all}
+use Rattle.engine.specs.Labeller.Settling.{PieceDone, piece-absent, Partly, partly-begun, partly-more, partly-all}
+use Rattle.engine.specs.Labeller.Activations.{Spot, SpotReady, ActivatePlaceNeeds, ActivatePlaceLeaves}
 
 -- the tables are those of these pieces, the arrays hold these states, and no activation of the vertex v with the label l is refused
 pub record SettleGiven (a : Arrays) (v l : ℕ) (qs : List Piece) (ss : List BlockState) : Type 0 where

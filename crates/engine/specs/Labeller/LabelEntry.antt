@@ -31,9 +31,9 @@ use Rattle.labelling_laws.specs.LentNetworks.{lent-accepted}
 use Rattle.labelling_laws.specs.LabellingTheorems as theorems
 use Rattle.labelling_laws.specs.LabellingTheorems.{labels-are-distances, held-limited, reached-counts, few-extractions, few-insertions}
 use Rattle.engine.specs.Tree.TreeWords.{treeWords, idle}
-use Rattle.engine.specs.Labelling.Begins.{tablesFor, prepared, freshArrays, begins}
-use Rattle.engine.specs.Labelling.Mapped.{mapped}
-use Rattle.engine.specs.Labelling.StepLoop.{store, IsLabelling, LabelAllGiven, LabelAllNeeds}
+use Rattle.engine.specs.Labeller.Begins.{tablesFor, prepared, freshArrays, begins}
+use Rattle.engine.specs.Labeller.Mapped.{mapped}
+use Rattle.engine.specs.Labeller.StepLoop.{store, IsLabelling, LabelAllGiven, LabelAllNeeds}
 
 -- ---- the judgement
 

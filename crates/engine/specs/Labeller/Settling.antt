@@ -20,8 +20,8 @@ use Rattle.preparation.specs.Placements.{length-windowsOf}
 use Rattle.preparation.specs.Numbering.{noWindow}
 use Rattle.preparation.specs.BlockRows.{row-absent}
 use Rattle.labelling_laws.specs.LoopLaws.{activated-at, activated-none}
-use Rattle.engine.specs.Labelling.Insertions.{insertedIn}
-use Rattle.engine.specs.Labelling.Descent.{blockIn, Descended, Stands, descent-done}
+use Rattle.engine.specs.Labeller.Insertions.{insertedIn}
+use Rattle.engine.specs.Labeller.Descent.{blockIn, Descended, Stands, descent-done}
 
 -- v is activated with label l in the blocks of a piece of size m, which stand from `first` on
 pub record PieceDone (first m v l : ℕ) (ss ss′ : List BlockState) (inserted : ℕ) : Type 0 where

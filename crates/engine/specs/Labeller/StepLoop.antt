@@ -29,15 +29,15 @@ use Rattle.labelling_laws.specs.Ends.{start-extracts, step-extracts, goes, fini
 use Rattle.engine.specs.declared.labelling.Progress.{Progress}
 use Rattle.engine.specs.declared.labelling.Progress.the-variants as progress
 use Rattle.engine.specs.declared.labelling.Step.the-variants as step
-use Rattle.engine.specs.Labelling.State.{Tables, Arrays, arrays, changed, Parted, Running, callAt}
-use Rattle.engine.specs.Labelling.Counts.{activationInserts, extractionInserts, blockInserts, maxInserted, maxExtracted}
-use Rattle.engine.specs.Labelling.BlockCalls.{count-is, block-same}
-use Rattle.engine.specs.Labelling.LentHeaps.{window-long}
-use Rattle.engine.specs.Labelling.Insertions.{insertedIn, inserted-set, inserted-fresh, total-most}
-use Rattle.engine.specs.Labelling.Mapped.{Mapped}
-use Rattle.engine.specs.Labelling.Activations.{call-few}
-use Rattle.engine.specs.Labelling.Vertices.{SettleGiven, SettleNeeds, SettleLeaves}
-use Rattle.engine.specs.Labelling.Extractions.{Columned, chosenOf, VertexExtracted, ExtractNeeds, ExtractLeaves}
+use Rattle.engine.specs.Labeller.State.{Tables, Arrays, arrays, changed, Parted, Running, callAt}
+use Rattle.engine.specs.Labeller.Counts.{activationInserts, extractionInserts, blockInserts, maxInserted, maxExtracted}
+use Rattle.engine.specs.Labeller.BlockCalls.{count-is, block-same}
+use Rattle.engine.specs.Labeller.LentHeaps.{window-long}
+use Rattle.engine.specs.Labeller.Insertions.{insertedIn, inserted-set, inserted-fresh, total-most}
+use Rattle.engine.specs.Labeller.Mapped.{Mapped}
+use Rattle.engine.specs.Labeller.Activations.{call-few}
+use Rattle.engine.specs.Labeller.Vertices.{SettleGiven, SettleNeeds, SettleLeaves}
+use Rattle.engine.specs.Labeller.Extractions.{Columned, chosenOf, VertexExtracted, ExtractNeeds, ExtractLeaves}
 
 -- ---- what is counted
 

@@ -25,8 +25,8 @@ use Rattle.preparation.specs.PreparationTheorems.{the-count, the-window}
 use Rattle.labelling_laws.specs.Acceptance.{Accepted, Suits, suits}
 use Rattle.labelling_laws.specs.OneBlock.{Fit}
 use Rattle.labelling_laws.specs.Arcs.{blocks-fit}
-use Rattle.engine.specs.Labelling.State.{Tables}
-use Rattle.engine.specs.Labelling.Begins.{tablesFor}
+use Rattle.engine.specs.Labeller.State.{Tables}
+use Rattle.engine.specs.Labeller.Begins.{tablesFor}
 
 -- the number of the first block of piece d, from 0
 unfoldable pub firstOf : List Piece → ℕ → ℕ
