@@ -22,7 +22,7 @@ use Rattle.definitions.specs.Network.{Rectangle}
 use Rattle.definitions.specs.Monge.{Monge}
 use Rattle.definitions.specs.Best.{by}
 use Rattle.definitions.specs.Intervals.{Interval, interval, Distinct, Rising}
-use Rattle.definitions.specs.Model.{LeastLeft, parent, available, extract, Model, fresh, intervals, intervals-rise, Call, coded, judge, step, Trace, extend, trace, AllExtractLeast, allowances}
+use Rattle.definitions.specs.Model.{LeastLeft, parent, available, extract, Model, fresh, intervals, intervals-rise, Call, extracts, coded, nothingLeft, judge, step, Trace, extend, trace, AllExtractLeast, allowances}
 use Rattle.definitions.specs.Laws.RunProofs.{runs-length}
 use Rattle.heap_laws.specs.Inequality as inequality
 use Rattle.heap_laws.specs.Neighbours as neighbours
@@ -122,12 +122,12 @@ module _ (e : Rectangle) (rows cols : ℕ) (ks : List Call) where
       → intervals e cols (more k .model) ≡ interval (k .row) 0 (pred cols) ∷ []
   activation-first k a none some = rw (trace-activate e rows cols ks k a) (activation.activate-first e rows cols model (trace-sound e rows cols ks) (k .row) (k .label) (a .high) none some)
 
-  -- M7. An extraction answers 50 and leaves the model if no interval is left. Else it answers a column with its sum: among the columns
-  -- that are left the least sum, and the lowest column of that sum. So it answers 50 exactly if no interval is left.
-  pub extraction-none : (k : Call) → k .kind ≡ 2 → kept ≡ [] → step e rows cols model k ≡ record { model = model; answer = coded 50 }
+  -- M7. An extraction answers that nothing is left and leaves the model if no interval is left. Else it answers a column with its sum: among the columns
+  -- that are left the least sum, and the lowest column of that sum. It does so exactly if no interval is left.
+  pub extraction-none : (k : Call) → k .kind ≡ extracts → kept ≡ [] → step e rows cols model k ≡ record { model = model; answer = coded nothingLeft }
   extraction-none k h none = extraction.extraction-none e rows cols model k h none
 
-  pub extraction-some : (k : Call) → k .kind ≡ 2 → kept ≢ [] → (c : ℕ) × (s : ℕ) × LeastLeft e cols model c s
+  pub extraction-some : (k : Call) → k .kind ≡ extracts → kept ≢ [] → (c : ℕ) × (s : ℕ) × LeastLeft e cols model c s
       × (step e rows cols model k ≡ record { model = extract model (by c s); answer = record { code = 0; column = c; sum = s } })
   extraction-some k h some = extraction.extraction-some e rows cols model k h some
 
@@ -155,7 +155,7 @@ module _ (e : Rectangle) (rows cols : ℕ) (ks : List Call) where
   inserted-removed-kept = traces.trace-balance e rows cols ks
 
   -- An extraction inserts at most two intervals, the rests of the one that had the column.
-  pub extraction-inserts : (k : Call) → k .kind ≡ 2 → more k .inserted ≤ done .inserted + 2
+  pub extraction-inserts : (k : Call) → k .kind ≡ extracts → more k .inserted ≤ done .inserted + 2
   unfolding extend
   extraction-inserts k h = rw trace-snoc (omega (arith, traces.step-new-extract e rows cols model k h))
 
