@@ -18,15 +18,15 @@
  *   1   a lent buffer is not of the stated size
  *   2   the text is over 60,000 bytes
  *   3   the text is not in the layout
- *   4   n, p, m, rows, columns, number of calls or a field's place is out of bounds
- *   5   a gate is outside 1 to n, or twice in a district
+ *   4   a size (n, p, m, rows, columns), how many calls there are, or a field's place is out of bounds
+ *   5   a gate is not one of 1 to n, or its district lists it twice
  *   6   a length is above 99,999, or a diagonal is not 0
  *   7   a block fails its check
  *   8   the source is outside 1 to n
  * and in the answer to one call of a session:
  *   9   kind is not 1 or 2, or the told row is out of range
  *   10  the row is already told
- *   11  the value is above 25,499,745, or below the last sum handed out
+ *   11  the value is above 25,499,745, or less than the sum of the latest take
  *   50  a take has nothing to hand out (no refusal)
  */
 #ifndef RABDZHINE_H
@@ -121,7 +121,7 @@ uint32_t rabdzhine_check_network(uint32_t n, uint32_t p,
 /*
  * Labels every gate with the metres of the shortest run from the source. It judges the network again, then the source.
  * Returns 0 with gates reached, takes and intervals brought in; labels then holds the label of gate v at v - 1, and
- * RABDZHINE_UNREACHED for an unreached gate and for places above n. A refusal, 1 or 4 to 8, leaves labels.
+ * RABDZHINE_UNREACHED where no run leads and behind gate n. A refusal, 1 or 4 to 8, leaves labels.
  */
 rabdzhine_label_answer rabdzhine_label_network(uint32_t n, uint32_t p,
                                                const uint32_t *sizes, size_t sizes_len,

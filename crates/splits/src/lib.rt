@@ -1,4 +1,4 @@
-// The halving of a piece, as a list of constants: the splits of all sizes from 1 to 24.
+// The halving of a piece as a list of constants: every split of every size that a piece may have.
 ghost use mathlib.Core.Path.{_≡_};
 ghost use Rattle.definitions.specs.Blocks.{allSplits};
 ghost use Rattle.splits.specs.Table.{flattened, splitIn, firstSplit};
