@@ -7,7 +7,6 @@ use Prim.Native.Nat.{ℕ, zero, suc, _+_, _*_, _≤_}
 use native.Mathlib.Omega.{arith}
 use lib.ListN.{getD}
 use Rattle.definitions.specs.Lists.{total}
-use Rattle.definitions.specs.Network.{Piece}
 use Rattle.definitions.specs.Judgement.{judgeBounds, judgeSize, judgeVertices, judgeRow, judgeBlocks, judgeSource}
 use Rattle.definitions.specs.Fields.{fieldBytes, fieldAt, lengthAt}
 use Rattle.definitions.specs.Reading.{FieldReading, Read, refused, value, _>>=_, require, readField, readFields, judgeLineEnd, readLine, lineBytes, readRows, readPiece, pieceBytes, readPieces, judgeEnd, readBody, readPlan, judgeLength, readText}

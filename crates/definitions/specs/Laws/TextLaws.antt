@@ -6,7 +6,7 @@ use borrow.Author.Tests.{leb-true, le-leb}
 use lib.Dec.{leb}
 use lib.ListN.{length}
 use Rattle.definitions.specs.Limits.{maxText}
-use Rattle.definitions.specs.Reading.{value, require, Plan, readPlan, judgeLength, readText}
+use Rattle.definitions.specs.Reading.{value, require, Plan, judgeLength, readText}
 use Rattle.definitions.specs.Written.{written, SoundPlan}
 use Rattle.definitions.specs.Laws.Causes.{test-holds}
 use Rattle.definitions.specs.Laws.ReadLaws.{bind-value, require-value}

@@ -35,7 +35,7 @@ use Rattle.heap_laws.specs.Edits.{before, from, cutAt}
 use Rattle.heap_laws.specs.ColumnParents.{lookup-available, won-outside}
 use Rattle.heap_laws.specs.Activate.{activate-none, activate-edit, activate-inserted, none-kept, activate-first}
 use Rattle.heap_laws.specs.Extract.{extract-edit, extract-inserted}
-use Rattle.engine.specs.Heap.WordLaws.{length-span, Outside, PutLeaves}
+use Rattle.engine.specs.Heap.WordLaws.{length-span, PutLeaves}
 use Rattle.engine.specs.Heap.Clear.{restLen-most, countAfter, Meets, Room, ClearLeaves, CutNeeds, CutLeaves}
 use Rattle.engine.specs.Heap.Search.{In, wins, SearchLeaves}
 use Rattle.engine.specs.Heap.Holds.{all-pairs, sound-of, run-at, count-most, Where, within, outside, where-is, laid, wins-is}

@@ -1,5 +1,4 @@
 -- `cut` leaves what the interval has before and after the column.
-use native.Mathlib.Omega.{arith}
 use Rattle.engine.specs.Heap.Clear.{cut-needs, cut-done}
 use borrow.Author.Needs.{needs}
 use Rattle.engine.proofs.heap.cut.Statement.{statement}

@@ -1,10 +1,10 @@
 -- `put_numbers` has stored the first i numbers.
 use mathlib.Core.Path.{_≡_}
-use Prim.Native.Nat.{_+_, _≤_, _-_}
+use Prim.Native.Nat.{_≤_, _-_}
 use native.Mathlib.Omega.{arith}
 use borrow.Author.Needs.{needs}
 use lib.ListN.{length, take}
-use lib.Seq.{take-length, sets, length-sets}
+use lib.Seq.{take-length, sets}
 use Rattle.engine.specs.Strides.{sets-more}
 use Rattle.engine.proofs.session.put_numbers.Statement.{statement}
 use Rattle.engine.proofs.session.put_numbers.Tie as tie
