@@ -1,19 +1,9 @@
 #!/usr/bin/env bash
 # Runs the program `labels`, or the one that is named, where its output takes nothing: it must say so on standard error, and be silent there
 # when all is written. A Rattle program has no exit status of its own, it always ends with 0, so the line is all that tells.
-set -euo pipefail
-cd "$(dirname "$0")/.."
-program=${1:-target/bin/labels}
-plan=crates/labels/stdin
-room=$(mktemp -d)
-trap 'rm -rf "$room"' EXIT
+. "$(dirname "$0")/common"
 echo 'labels: the listing could not be written whole' >"$room/told"
 : >"$room/silent"
-
-fail() {
-    echo "full_output: $*"
-    exit 1
-}
 
 # expect OUTPUT SAID: what the run before this left on standard error is what the file SAID has
 expect() {

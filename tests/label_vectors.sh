@@ -1,16 +1,7 @@
 #!/usr/bin/env bash
 # Runs the program `labels`, or the one that is named, on each text NAME.in of tests/labels and compares what it writes, to the byte, with
 # NAME.out. The files are outside vectors: a model of the papers that shares nothing with this code made them.
-set -euo pipefail
-cd "$(dirname "$0")/.."
-program=${1:-target/bin/labels}
-room=$(mktemp -d)
-trap 'rm -rf "$room"' EXIT
-
-fail() {
-    echo "label_vectors: $*"
-    exit 1
-}
+. "$(dirname "$0")/common"
 
 count=0
 for text in tests/labels/*.in; do

@@ -1,17 +1,7 @@
 #!/usr/bin/env bash
 # Runs the program `labels`, or the one that is named, on a text of 60,000 bytes, as long as a text may be, and on one of 60,001. No
 # contract can say how much of its input a program reads, so what it writes is compared.
-set -euo pipefail
-cd "$(dirname "$0")/.."
-program=${1:-target/bin/labels}
-plan=crates/labels/stdin
-room=$(mktemp -d)
-trap 'rm -rf "$room"' EXIT
-
-fail() {
-    echo "long_texts: $*"
-    exit 1
-}
+. "$(dirname "$0")/common"
 
 # expect SIZE LINE: the stored plan with blanks behind it, up to the size, is answered by the line and nothing else
 expect() {

@@ -5,7 +5,7 @@
 --   Room Free free-of   room for one piece more
 --   TableRead table-judged   a table's rows with the check of its blocks
 --   SizedLeft sized-..   what a piece leaves behind its size
---   PieceLeft piece-..   what one piece leaves
+--   PieceLeft ReadPieceLeaves piece-..   what one piece leaves
 --   PiecesGoing pieces-begun pieces-turn pieces-broken   the loop over the pieces
 use mathlib.Core.Path.{_≡_, refl, sym, ap, _∙_}
 use mathlib.Core.Logic.{_≢_}
@@ -182,6 +182,11 @@ pub record PieceLeft (text : List ℕ) (at : ℕ) (qs : List Piece) (next : ℕ)
   pub held : Held (qs ++ q ∷ []) sizes vertices lengths
   pub reached : next ≡ at + pieceBytes q
   pub inside : next ≤ length text
+
+-- what `read_piece` leaves behind d pieces that the buffers hold, whichever they are
+abbrev pub ReadPieceLeaves : List ℕ → ℕ → ℕ → ℕ → List ℕ → List ℕ → List ℕ → ℕ → ℕ → List ℕ → List ℕ → List ℕ → Type 0
+ReadPieceLeaves text n at d sizes vertices lengths number next sizes′ vertices′ lengths′ =
+    (qs : List Piece) → length qs ≡ d → Held qs sizes vertices lengths → Came (readPiece text n at) number (PieceLeft text at qs next sizes′ vertices′ lengths′)
 
 -- room for a piece behind the d that the buffers hold
 pub record Room (d : ℕ) (sizes vertices lengths : List ℕ) : Type 0 where

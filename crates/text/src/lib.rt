@@ -2,18 +2,17 @@
 mod field_reader;
 
 ghost use mathlib.Core.Path.{_≡_};
-ghost use mathlib.Core.List.{List, []};
+ghost use mathlib.Core.List.{[]};
 ghost use Prim.Native.Nat.{_+_, _<_, _≤_};
 ghost use lib.ListN.{length, replicate};
 ghost use Rattle.definitions.specs.Limits.{maxSize, sizePlaces, tablePlaces};
-ghost use Rattle.definitions.specs.Network.{Piece};
 ghost use Rattle.definitions.specs.Judgement.{judgeSize, judgeVertices, judgeRow};
 ghost use Rattle.definitions.specs.Fields.{fieldBytes, fieldAt, lengthAt};
-ghost use Rattle.definitions.specs.Reading.{lineBytes, readField, readFields, readLine, readRows, readPiece, readPieces, readBody, readPlan};
+ghost use Rattle.definitions.specs.Reading.{lineBytes, readField, readFields, readLine, readRows, readPieces, readBody, readPlan};
 ghost use Rattle.definitions.specs.Entries.{readRefusal, reading};
 ghost use Rattle.text.specs.Outcomes.{Came, RowsLeft};
 ghost use Rattle.text.specs.ReadSteps.{judged, readSized};
-ghost use Rattle.text.specs.PieceReading.{Held, Room, Free, TableRead, SizedLeft, PieceLeft, PiecesLeft};
+ghost use Rattle.text.specs.PieceReading.{Held, Room, Free, TableRead, SizedLeft, ReadPieceLeaves, PiecesLeft};
 ghost use Rattle.text.specs.Plans.{readQuestion, PlanRead};
 use bounds::Cause;
 use bounds::Network;
@@ -189,7 +188,7 @@ fn read_piece(
     lengths: &mut [u32],
 ) -> Progress
     requires { ⌜ (at ≤ length (now text)) × (d < sizePlaces) × Room d (now sizes) (now vertices) (now lengths) ⌝ }
-    ensures { λ r. ⌜ ((qs : List Piece) → length qs ≡ d → Held qs (now (sizes .entry)) (now (vertices .entry)) (now (lengths .entry)) → Came (readPiece (now (text .entry)) n at) (r .number) (PieceLeft (now (text .entry)) at qs (r .next) (now (sizes .exit)) (now (vertices .exit)) (now (lengths .exit)))) ⌝ }
+    ensures { λ r. ⌜ ReadPieceLeaves (now (text .entry)) n at d (now (sizes .entry)) (now (vertices .entry)) (now (lengths .entry)) (r .number) (r .next) (now (sizes .exit)) (now (vertices .exit)) (now (lengths .exit)) ⌝ }
 {
     let size = read_size(text, at);
     let number = size.number;

@@ -19,7 +19,7 @@ plain w n p f l r = record {
   ordered = r .ordered;
   inside = omega (arith, r .high);
   owned = λ k a b. tag-is (w k) p (r .owned k a b);
-  before = λ a o. r .left a (tag-owned w p (pred f) o);
+  before = λ a o. r .left (omega arith) (tag-owned w p (pred f) o);
   after = λ a o. r .right (omega arith) (tag-owned w p (suc l) o);
 }
 
@@ -29,7 +29,7 @@ tagged w n p f l r = record {
   ordered = r .ordered;
   high = omega (arith, r .inside);
   owned = λ k a b. tag-owned w p k (r .owned k a b);
-  left = λ a t. r .before a (tag-is (w (pred f)) p t);
+  left = λ a t. r .before (omega arith) (tag-is (w (pred f)) p t);
   right = λ a t. r .after (omega arith) (tag-is (w (suc l)) p t);
 }
 
