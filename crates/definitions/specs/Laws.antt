@@ -4,6 +4,7 @@
 --   RunProofs RunLaws                         of `intervals` in the file Model
 --   FieldProofs LineProofs FieldBack LineBack of `readText` in the file Text: from a text to its plan, and back; for one field, for all lines
 --   TextLaws                                  the same, of the whole text
+--   FieldBound                                the bound on a field's value, on which the field reader of the code rests too
 --   Members Causes ReadLaws                   parts of these: members of lists, causes that are 0, what was read taken apart
 pub mod Members
 pub mod Causes
@@ -13,6 +14,7 @@ pub mod RunProofs
 pub mod RunLaws
 pub mod ReadLaws
 pub mod FieldProofs
+pub mod FieldBound
 pub mod FieldBack
 pub mod LineProofs
 pub mod LineBack

@@ -2,7 +2,7 @@
 --   digits-value digits-numeral     the digits of a number are a numeral, and say it
 --   digits-room                     how many there are
 --   skip-justified                  what is right-justified stands after the blanks
---   maxField length-written field-back   what has room; six bytes, which say the number
+--   length-written field-back       six bytes, which say the number
 use mathlib.Core.Path.{_≡_, refl}
 use mathlib.Core.Bool.{true}
 use mathlib.Core.List.{List, [], _∷_, _++_}
@@ -17,6 +17,7 @@ use Rattle.definitions.specs.Lists.{every}
 use Rattle.definitions.specs.Fields.{blank, fieldBytes, isDigit, skipBlanks, isNumeral, numeralValue, aField, fieldOf, digitsOf, decimal, rightJustified}
 use Rattle.definitions.specs.Written.{writtenField}
 use Rattle.definitions.specs.Laws.FieldProofs.{digits-one, digits-more, digit-in}
+use Rattle.definitions.specs.Laws.FieldBound.{maxField}
 
 -- ---- the digits of a number
 
@@ -114,10 +115,6 @@ skip-blanks zero ds h = h
 skip-blanks (suc k) ds h = skip-blanks k ds h
 
 -- ---- a field
-
--- what has room in six columns: six nines
-abbrev pub maxField : ℕ
-maxField = 10 ^ fieldBytes - 1
 
 pub length-written : (x : ℕ) → x ≤ maxField → length (writtenField x) ≡ fieldBytes
 unfolding writtenField rightJustified decimal

@@ -21,7 +21,8 @@ use Rattle.definitions.specs.Laws.Members.{every-imp}
 use Rattle.definitions.specs.Laws.Causes.{no-cause, size-in, bounds-in, source-in, vertices-in, Short, rows-short}
 use Rattle.definitions.specs.Written.{writtenField, writtenLine, writtenPiece, written, SoundPiece, SoundPlan}
 use Rattle.definitions.specs.Laws.LineProofs.{Reads, length-reads}
-use Rattle.definitions.specs.Laws.FieldBack.{maxField, length-written, field-back}
+use Rattle.definitions.specs.Laws.FieldBound.{maxField}
+use Rattle.definitions.specs.Laws.FieldBack.{length-written, field-back}
 
 -- numbers that have room in their fields
 abbrev Small : List ℕ → Type 0
