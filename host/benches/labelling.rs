@@ -8,7 +8,7 @@
 
 use rabdzhine::{LABELS, LENGTHS, SIZES, VERTICES};
 use reference::network::{weight, Lent, Plan, MAX_VERTICES, ROOM};
-use reference::plans::{city, hostile, Kind, Rng, KINDS};
+use reference::plans::{city, hostile, Kind, Rng, KINDS, TOWN};
 use reference::{dijkstra, fr_dijkstra, text};
 use std::hint::black_box;
 use std::time::Instant;
@@ -216,11 +216,12 @@ fn main() {
     println!("label and FR label include the check of the network.");
 
     let shapes = [(1, 1), (1, 2), (2, 2), (2, 4), (4, 4)];
-    let towns =
-        shapes.map(|(down, across)| (format!("{} x 24", down * across), city(down, across, 6, &mut rng)));
+    let towns = shapes
+        .map(|(down, across)| (format!("{} x 24", down * across), city(down, across, 6, TOWN, &mut rng)));
     let a = series("A town of more and more districts of 24 gates", towns.into(), true);
 
-    let towns = [1, 2, 3, 4, 5, 6].map(|side| (format!("16 x {}", 4 * side), city(4, 4, side, &mut rng)));
+    let towns =
+        [1, 2, 3, 4, 5, 6].map(|side| (format!("16 x {}", 4 * side), city(4, 4, side, TOWN, &mut rng)));
     let b = series("A town of 16 districts of more and more gates", towns.into(), true);
 
     let mut kinds: Vec<(String, Vec<Kind>)> = KINDS.map(|kind| (format!("{kind:?}"), vec![kind])).into();

@@ -1,7 +1,7 @@
 -- The labelling of every accepted network: demand 2 and the count, each in full, with its argument.
 --   calls-done                    no call of the labelling is refused
 --   it-ends no-interval-left      in the end no block has an interval
---   labels-limited held-limited   a label is at most 25,499,745
+--   labels-limited held-limited   a label is at most `maxLabel`
 --   labels-are-distances above-n  demand 2: each place of the label buffer
 --   reached-counts                the vertices reached
 --   few-extractions few-insertions   the counts
@@ -37,7 +37,7 @@ use Rattle.labelling_laws.specs.LentNetworks.{lent-accepted}
 module _ (n : ℕ) (pieces : List Piece) (source : ℕ) (ok : Accepted n pieces source) where
   -- After any number of steps every answer of every block has code 0: no activation was refused, and no extraction found nothing.
   -- A vertex is activated once, when it is settled, at a label that is the last sum handed out: so its row is new in each block and
-  -- the label is at least the floor. Each vertex settled before adds at most 99,999 to it, so it is at most 255 × 99,999.
+  -- the label is at least the floor. Each vertex settled before adds at most `maxLength` to it, so it is at most `maxLabel`.
   -- An extraction is made only from a block that offers a column.
   pub calls-done : (m : ℕ) → Every (λ s. Every (λ a. a .code ≡ 0) (s .trace .answers)) ((steps m (start (blocks pieces) source)) .blocks)
   calls-done = ends.calls-done (blocks pieces) n source (network.setting n pieces source ok)
@@ -50,7 +50,7 @@ module _ (n : ℕ) (pieces : List Piece) (source : ℕ) (ok : Accepted n pieces 
   pub no-interval-left : Every (λ s. intervals (s .block .lengths) (length (s .block .cols)) (s .trace .model) ≡ []) ((labelling (blocks pieces) source) .blocks)
   no-interval-left = chosen-none (labelling (blocks pieces) source) it-ends
 
-  -- The k-th vertex settled has a label of at most (k - 1) × 99,999, and at most n ≤ 256 vertices are settled.
+  -- The k-th vertex settled has a label of at most k - 1 times `maxLength`, and at most n vertices are settled.
   pub labels-limited : (v l : ℕ) → labelOf v ((labelling (blocks pieces) source) .settled) ≡ some l → l ≤ maxLabel
   labels-limited = network.labels-limited n pieces source ok
 

@@ -9,6 +9,7 @@ use crate::numbers::put;
 use crate::numbers::sum;
 use crate::numbers::times;
 use crate::numbers::up_to;
+use bounds::Network;
 
 // The nodes of the rim.
 pub(crate) const RIM: u32 = 24;
@@ -20,16 +21,16 @@ const ARCS: u32 = NODES * NODES;
 
 pub(crate) const GRAPH_PLACES: usize = ARCS as usize;
 
+// The longest track: a way along the whole rim is no longer than the largest length.
+const MAX_TRACK: u32 = Network::MAX_LENGTH / RIM;
+
 // The length where there is no arc: more than any way along the rim.
-const FAR: u32 = 4000000;
+const FAR: u32 = Network::MAX_LENGTH + 1;
 
 // The nodes of a side of the grid, and its last row and column.
 const SIDE: u32 = 7;
 
 const LAST: u32 = SIDE - 1;
-
-// The longest track.
-const MAX_TRACK: u32 = 1000;
 
 // One track in so many is missing.
 const MISSING: u32 = 5;

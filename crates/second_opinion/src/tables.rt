@@ -29,16 +29,16 @@ const LOWER_WEIGHTS: u32 = 3 * SIDE;
 
 const WEIGHTS: usize = 4 * Network::ROW_PLACES;
 
-// The longest step along a line: 24 of them are no longer than the largest length.
-const MAX_STEP: u32 = 4000;
+// The longest step along a line: as many as there are places in a row are no longer than the largest length.
+const MAX_STEP: u32 = Network::MAX_LENGTH / SIDE;
 
 // One step of a graded table in so many is not 0.
 const CLIMBS: u32 = 4;
 
-// The largest weight and step of a graded table: three weights and 576 steps are no longer than the largest length.
-const MAX_WEIGHT: u32 = 20000;
+// The largest weight and step of a graded table: three weights and a step at each place are no longer than the largest length.
+const MAX_WEIGHT: u32 = Network::MAX_LENGTH / 5;
 
-const MAX_CLIMB: u32 = 60;
+const MAX_CLIMB: u32 = 2 * MAX_WEIGHT / PLACES;
 
 // The kinds of tables; the planar ones come first.
 pub(crate) const PLANAR_KINDS: u32 = 2;

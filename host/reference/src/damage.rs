@@ -1,6 +1,6 @@
 //! Texts and networks that are turned away, each with the number of its cause where that is plain from document 01.
 
-use crate::network::{Lent, Plan, LENGTHS, ROOM};
+use crate::network::{Lent, Plan, LENGTHS, MAX_FIELD, MAX_LENGTH, ROOM};
 use crate::plans::Rng;
 
 /// Depot example P1.
@@ -147,7 +147,7 @@ pub fn scratched(text: &[u8], rng: &mut Rng) -> Vec<u8> {
 /// A number that is wrong in many places.
 fn odd(old: u32, rng: &mut Rng) -> u32 {
     let near = [old.wrapping_add(1), old.wrapping_sub(1)];
-    let fixed = [0, 1, 2, 17, 25, 257, 99_999, 100_000, u32::MAX];
+    let fixed = [0, 1, 2, 17, 25, 257, MAX_LENGTH, MAX_LENGTH + 1, u32::MAX];
     rng.pick(&[&near[..], &fixed].concat())
 }
 
@@ -165,7 +165,7 @@ pub fn spoiled(plan: &Plan, rng: &mut Rng) -> Plan {
         5 => &mut piece.lengths[i][i],
         _ => &mut piece.lengths[i][j],
     };
-    *place = odd(*place, rng).min(999_999);
+    *place = odd(*place, rng).min(MAX_FIELD);
     plan
 }
 

@@ -17,6 +17,8 @@ pub const MAX_LENGTH: u32 = 99_999;
 pub const MAX_CALLS: u32 = 64;
 /// The most bytes of a text.
 pub const MAX_TEXT: usize = 60_000;
+/// The largest number that a field of six columns holds.
+pub const MAX_FIELD: u32 = 999_999;
 
 /// How many vertices a piece, and how many lengths a row, has room for in the lent buffers.
 pub const ROOM: usize = MAX_SIZE as usize;

@@ -81,8 +81,9 @@ pub fn rectangle(rows: usize, columns: usize, kind: Kind, rng: &mut Rng) -> Vec<
         }
         Kind::Diagonal => diagonal(rows, columns, rng),
         Kind::Free => {
-            let step = (39_999 / (rows * columns)) as u32;
-            steps(rows, columns, 30_000, step, 2, rng)
+            let term = MAX_LENGTH / 10 * 3;
+            let step = (MAX_LENGTH - 2 * term) / (rows * columns) as u32;
+            steps(rows, columns, term, step, 2, rng)
         }
     }
 }
@@ -108,8 +109,9 @@ fn steps(rows: usize, columns: usize, term: u32, step: u32, rare: u32, rng: &mut
 
 /// Entry (i, k) is the square of the distance of two points on a line; both kinds of points rise.
 fn diagonal(rows: usize, columns: usize, rng: &mut Rng) -> Vec<Vec<u32>> {
+    let last = MAX_LENGTH.isqrt();
     let mut points = |count: usize| -> Vec<u32> {
-        let mut points: Vec<u32> = (0..count).map(|_| rng.below(300)).collect();
+        let mut points: Vec<u32> = (0..count).map(|_| rng.from(0, last)).collect();
         points.sort_unstable();
         points
     };
@@ -143,9 +145,17 @@ pub fn hostile(n: u32, sizes: &[usize], kinds: &[Kind], rng: &mut Rng) -> Plan {
     Plan { n, pieces, source }
 }
 
-/// A town of streets on a grid: `down` times `across` square pieces, `side` streets along each, with 4 * side vertices on the edge.
-/// Lengths differ by direction, and streets inside a piece may be one-way.
-pub fn city(down: usize, across: usize, side: usize, rng: &mut Rng) -> Plan {
+/// The longest street of a town.
+pub const TOWN: u32 = 400;
+
+/// The longest street of any plan: all those on the edge of a piece, `side` along each side, are no longer than the largest length.
+pub fn longest_street(side: usize) -> u32 {
+    MAX_LENGTH / (4 * side as u32)
+}
+
+/// Streets on a grid: `down` times `across` square pieces, `side` streets along each, with 4 * side vertices on the edge. Streets are at
+/// most `longest` and at least a tenth of it. Lengths differ by direction, and streets inside a piece may be one-way.
+pub fn city(down: usize, across: usize, side: usize, longest: u32, rng: &mut Rng) -> Plan {
     let (height, width) = (down * side + 1, across * side + 1);
     let on_edge = |y: usize, x: usize| (y % side) * (x % side) == 0;
     let crossings = (0..height).flat_map(|y| (0..width).map(move |x| (y, x)));
@@ -161,7 +171,7 @@ pub fn city(down: usize, across: usize, side: usize, rng: &mut Rng) -> Plan {
             let around = clockwise(side);
             pieces.push(Piece {
                 vertices: around.iter().map(|&(y, x)| vertex[top + y][left + x]).collect(),
-                lengths: planar_table(side, &around, rng),
+                lengths: planar_table(side, &around, longest, rng),
             });
         }
     }
@@ -180,14 +190,14 @@ fn clockwise(side: usize) -> Vec<(usize, usize)> {
 }
 
 /// The shortest runs between the crossings on the edge of a square with random streets.
-fn planar_table(side: usize, around: &[(usize, usize)], rng: &mut Rng) -> Vec<Vec<u32>> {
-    const CLOSED: u32 = 10_000_000;
+fn planar_table(side: usize, around: &[(usize, usize)], longest: u32, rng: &mut Rng) -> Vec<Vec<u32>> {
+    const CLOSED: u32 = MAX_LENGTH + 1;
     let count = (side + 1) * (side + 1);
     let mut distances = vec![vec![CLOSED; count]; count];
     for (a, b, inside) in streets(side) {
         let one_way = if inside { rng.below(6) } else { 2 };
-        distances[a][b] = if one_way == 0 { CLOSED } else { rng.from(40, 400) };
-        distances[b][a] = if one_way == 1 { CLOSED } else { rng.from(40, 400) };
+        distances[a][b] = if one_way == 0 { CLOSED } else { rng.from(longest / 10, longest) };
+        distances[b][a] = if one_way == 1 { CLOSED } else { rng.from(longest / 10, longest) };
     }
     for (k, from) in distances.iter_mut().enumerate() {
         from[k] = 0;
@@ -235,11 +245,12 @@ pub fn all(seed: u64) -> Vec<Plan> {
     let rng = &mut rng;
     let mut plans = Vec::new();
     for (down, across, side) in [(1, 1, 1), (1, 3, 2), (2, 2, 3), (3, 2, 5), (4, 4, 4)] {
-        plans.push(city(down, across, side, rng));
-        let plan = city(down, across, side, rng);
+        plans.push(city(down, across, side, TOWN, rng));
+        plans.push(city(down, across, side, longest_street(side), rng));
+        let plan = city(down, across, side, TOWN, rng);
         plans.push(thinned(plan, rng));
     }
-    plans.push(city(4, 4, 6, rng));
+    plans.push(city(4, 4, 6, TOWN, rng));
     for kind in KINDS {
         plans.push(hostile(MAX_VERTICES, &[ROOM; SIZES], &[kind], rng));
         plans.push(hostile(24, &[24, 23, 1, 2, 24], &[kind], rng));
@@ -301,7 +312,7 @@ fn random_call(rows: u32, floor: u32, rng: &mut Rng) -> [u32; 3] {
         3 if rng.below(6) == 0 => MAX_LABEL,
         4..=12 => floor,
         13..=18 => floor + rng.below(3),
-        _ => floor + rng.below(20_000),
+        _ => floor + rng.below(MAX_LENGTH / 5),
     };
     [kind, row, label]
 }
