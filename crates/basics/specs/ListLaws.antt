@@ -168,7 +168,7 @@ different-snoc (y ∷ xs) x d h =
     let q : y ≡ x → ⊥ = λ z. clash (eq-eqb x y (sym z)) a in
     (rw (mem-snoc y xs x, d .0, ne-eqb y x q), different-snoc xs x (d .1) b)
 
-count-le : (p : ℕ → Bool) (n : ℕ) → count p n ≤ n
+pub count-le : (p : ℕ → Bool) (n : ℕ) → count p n ≤ n
 unfolding count
 count-le p zero = le-refl 0
 count-le p (suc n) = go (truth (p n)) (count-le p n)

@@ -5,6 +5,7 @@
 --   labels-are-distances above-n  demand 2: each place of the label buffer
 --   reached-counts                the vertices reached
 --   few-extractions few-insertions   the counts
+--   counts-shown labels-shown     what a listing says of them, in nine columns
 --   every-block-a-trace           each block's model is that of a list of calls
 --   lent-network depot-accepted   a network in lent buffers; the depot example
 -- `Accepted n pieces source` says that no cause turns away the network of n vertices with these pieces, nor the source
@@ -33,6 +34,7 @@ use Rattle.labelling_laws.specs.LoopLaws.{chosen-none}
 use Rattle.labelling_laws.specs.BlockTraces.{Made, made}
 use Rattle.labelling_laws.specs.PieceBlocks as network
 use Rattle.labelling_laws.specs.LentNetworks.{lent-accepted}
+use Rattle.labelling_laws.specs.ListedNumbers.{InColumns, counts-in-columns, labels-in-columns}
 
 module _ (n : ℕ) (pieces : List Piece) (source : ℕ) (ok : Accepted n pieces source) where
   -- After any number of steps every answer of every block has code 0: no activation was refused, and no extraction found nothing.
@@ -83,6 +85,13 @@ module _ (n : ℕ) (pieces : List Piece) (source : ℕ) (ok : Accepted n pieces 
   -- extracted at most once; all blocks of a piece have at most m·⌈log₂ m⌉ rows and as many columns.
   pub few-insertions : insertions (labelling (blocks pieces) source) ≤ 5 * weight pieces
   few-insertions = network.insertions-weight n pieces source ok
+
+  -- Nine columns hold the four numbers of a listing's first line, and every label: `-` stands for the unreached and for nothing else.
+  pub counts-shown : Every InColumns (source ∷ reached (labelling (blocks pieces) source) ∷ extractions (labelling (blocks pieces) source) ∷ insertions (labelling (blocks pieces) source) ∷ [])
+  counts-shown = counts-in-columns n pieces source ok
+
+  pub labels-shown : (v l : ℕ) → labelOf v ((labelling (blocks pieces) source) .settled) ≡ some l → InColumns l
+  labels-shown = labels-in-columns n pieces source ok
 
 -- Demand 3 reaches the labelling: the model of each block is what some list of calls leaves of a fresh one, after any number of steps.
 pub every-block-a-trace : (pieces : List Piece) (source m : ℕ) → Every Made ((steps m (start (blocks pieces) source)) .blocks)

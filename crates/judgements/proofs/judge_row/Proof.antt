@@ -4,6 +4,7 @@ use mathlib.Core.Bool.{Bool, true, false, and-false}
 use mathlib.Core.Logic.{⊎-elim}
 use mathlib.Core.List.{List}
 use Prim.Native.Nat.{ℕ, _≤_, _<_, _+_, _-_}
+use native.Mathlib.Omega.{arith}
 use borrow.Author.Needs.{needs}
 use borrow.Author.Tests.{eq-eqb, le-leb, lt-leb, not-true, not-false}
 use lib.Dec.{eqb, leb}
@@ -41,11 +42,16 @@ abbrev μ-loop : tie.MeasureT-loop
 μ-loop i row k₀ k = length row - k
 
 returns : tie.Need-returns Inv-loop μ-loop
-returns c = long _ _ _ (c .before .before .before .loop .inv .1) (c .before .before .loop-test .taken) (c .if1 .taken)
+returns c =
+    let a = c .before .before .before .before .args in
+    let l = c .before .before .before .loop in
+    long (a .i) (a .row .now) (l .k) (l .inv .1) (c .before .before .loop-test .taken) (omega (arith, c .if1 .taken))
 
 loop-again : tie.Need-loop-again Inv-loop μ-loop
 loop-again c =
-    (search needs, next (c .before .before .before .before .args .i) _ _ (c .before .before .before .loop .inv .1) (c .before .before .loop-test .taken) (c .if1 .left))
+    let a = c .before .before .before .before .args in
+    let l = c .before .before .before .loop in
+    (search needs, next (a .i) (a .row .now) (l .k) (l .inv .1) (c .before .before .loop-test .taken) (omega (arith, c .if1 .left)))
 
 returns-2 : tie.Need-returns-2 Inv-loop μ-loop
 returns-2 c = diagonal _ _ (c .before .before .before .before .loop .k) (c .before .before .before .before .loop .inv .1) (not-true _ (c .if3 .taken))
