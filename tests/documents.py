@@ -57,7 +57,7 @@ REFUSALS = {
 }
 
 # The constants of the C header and of the Rust crate, by the code's. Those of the stack are measured by host/tests/stack.
-PLACES = {
+HOST_CONSTANTS = {
     "SIZES": "Network.SIZE_PLACES",
     "VERTICES": "Network.VERTEX_PLACES",
     "LENGTHS": "Network.LENGTH_PLACES",
@@ -69,6 +69,8 @@ PLACES = {
     "LINE": "Line.BYTES",
     "LISTING": "answer.LISTING_BYTES",
     "UNREACHED": "Network.UNREACHED",
+    "MAX_LENGTH": "Network.MAX_LENGTH",
+    "MAX_LABEL": "Network.MAX_LABEL",
 }
 
 faults = []
@@ -280,7 +282,7 @@ def check_host():
     header = {name: int(number) for name, number in re.findall(r"#define RABDZHINE_(\w+) \D*(?:32_C\()?(\d+)", read(HEADER))}
     stated = re.findall(r"pub const (\w+): \w+ = ([\w:]+);", read(CRATE))
     crate = {name: int(number.replace("u32::MAX", "4294967295").replace("_", "")) for name, number in stated}
-    code = {name: value(constant) for name, constant in PLACES.items()}
+    code = {name: value(constant) for name, constant in HOST_CONSTANTS.items()}
     code |= {name: number for name, number in header.items() if name.startswith("STACK_")}
     for name in sorted(header.keys() | crate.keys() | code.keys()):
         if not header.get(name) == crate.get(name) == code.get(name):

@@ -8,7 +8,7 @@
 
 use rabdzhine::{LABELS, LENGTHS, SIZES, VERTICES};
 use reference::network::{weight, Lent, Plan, MAX_VERTICES, ROOM};
-use reference::plans::{city, hostile, Kind, Rng, KINDS, TOWN};
+use reference::plans::{city, hostile, longest_street, Kind, Rng, KINDS, TOWN};
 use reference::{dijkstra, fr_dijkstra, text};
 use std::hint::black_box;
 use std::time::Instant;
@@ -231,5 +231,9 @@ fn main() {
         .map(|(name, kinds)| (name, hostile(MAX_VERTICES, &[ROOM; SIZES], &kinds, &mut rng)));
     let c = series("Hostile tables, 16 x 24", tables.collect(), false);
 
-    println!("\nLargest label/FR: {:.2}. The bar is 1.5.", a.max(b).max(c));
+    let lines =
+        [TOWN, longest_street(6)].map(|longest| (format!("to {longest}"), city(4, 4, 6, longest, &mut rng)));
+    let d = series("Streets of a town and of an interurban line, 16 x 24", lines.into(), false);
+
+    println!("\nLargest label/FR: {:.2}. The bar is 1.5.", a.max(b).max(c).max(d));
 }

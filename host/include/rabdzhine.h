@@ -20,13 +20,13 @@
  *   3   the text is not in the layout
  *   4   a size (n, p, m, rows, columns), how many calls there are, or a field's place is out of bounds
  *   5   a gate is not one of 1 to n, or its district lists it twice
- *   6   a length is above 99,999, or a diagonal is not 0
+ *   6   a length is above 999,999 (no field of a text is), or a diagonal is not 0
  *   7   a block fails its check
  *   8   the source is outside 1 to n
  * and in the answer to one call of a session:
  *   9   kind is not 1 or 2, or the told row is out of range
  *   10  the row is already told
- *   11  the value is above 25,499,745, or less than the sum of the latest take
+ *   11  the value is above 254,999,745, or less than the sum of the latest take
  *   50  a take has nothing to hand out (no refusal)
  */
 #ifndef RABDZHINE_H
@@ -53,6 +53,12 @@ extern "C" {
 
 /* The label of a gate that no run reaches, and of a place above n. */
 #define RABDZHINE_UNREACHED UINT32_C(4294967295)
+
+/* The largest length, in metres: it fills a field of a text. */
+#define RABDZHINE_MAX_LENGTH UINT32_C(999999)
+
+/* The largest label, and the largest value of a tell: a run of 255 such lengths. */
+#define RABDZHINE_MAX_LABEL UINT32_C(254999745)
 
 /*
  * The stack that a call of each entry may take, in bytes: a third or so above what was measured, and at least 128. With one page of 4,096 bytes below

@@ -1,6 +1,6 @@
 //! The field reader and the field writer against the model.
 
-use rabdzhine::{read_field, write_field, LINE};
+use rabdzhine::{read_field, write_field, LINE, MAX_LABEL, MAX_LENGTH};
 use reference::entries;
 use reference::plans::Rng;
 
@@ -17,7 +17,7 @@ fn fields_are_read() {
     assert_eq!((read_field(b"  1024", 0, &mut value), value), (0, [1024]));
     assert_eq!((read_field(b"    00", 0, &mut value), value), (3, [0]));
     let mut rng = Rng::new(1);
-    let numbers = [0, 1, 9, 10, 99, 100, 1_000, 99_999, 100_000, 999_999];
+    let numbers = [0, 1, 9, 10, 99, 100, 1_000, 99_999, 100_000, MAX_LENGTH];
     for x in numbers {
         compare_read(format!("{x:6}").as_bytes(), 0, 1);
         compare_read(format!("{x:06}").as_bytes(), 0, 1);
@@ -50,8 +50,8 @@ fn compare_write(size: usize, place: usize, x: u32) {
 #[test]
 fn fields_are_written() {
     let mut line = [b'.'; LINE];
-    assert_eq!(write_field(&mut line, 1, 25_499_745), 0);
-    assert_eq!(&line, b"......... 25499745..................");
+    assert_eq!(write_field(&mut line, 1, MAX_LABEL), 0);
+    assert_eq!(&line, b".........254999745..................");
     let mut rng = Rng::new(2);
     let borders = (0..10).flat_map(|k| [10u32.pow(k), 10u32.pow(k) - 1]).chain([4_294_967_294, u32::MAX]);
     for x in borders.chain((0..2_000).map(|_| rng.below(u32::MAX))) {

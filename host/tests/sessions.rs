@@ -52,6 +52,16 @@ fn the_depot_examples() {
 }
 
 #[test]
+fn the_largest_length_value_and_sum() {
+    let mut s = depot(&[[1, 0, MAX_LABEL + 1], [1, 0, MAX_LABEL], [2, 0, 0], [1, 1, MAX_LABEL]]);
+    s.lengths.fill(MAX_LENGTH);
+    let (_, answers, _) = compare(&s, PLACES);
+    assert_eq!(answers[..12], [11, 0, 0, 0, 0, 0, 0, 0, 255_999_744, 11, 0, 0]);
+    s.lengths[1] += 1;
+    assert_eq!(compare(&s, PLACES).0, 6);
+}
+
+#[test]
 fn sound_sessions() {
     let mut rng = Rng::new(31);
     let mut met = BTreeSet::new();

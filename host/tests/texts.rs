@@ -1,7 +1,7 @@
 //! The text reader and the listing against the model, on sound and on damaged texts.
 
 use rabdzhine::{read_text, write_listing, ReadAnswer, LENGTHS, LISTING, SIZES, VERTICES};
-use reference::damage::{scratched, spoiled, text, texts, DEPOT, DEPOT_LISTING};
+use reference::damage::{long_lengths, scratched, spoiled, text, texts, DEPOT, DEPOT_LISTING};
 use reference::entries;
 use reference::plans::{all, Rng};
 use reference::text::write;
@@ -46,8 +46,8 @@ fn sound_texts() {
 }
 
 #[test]
-fn damaged_texts() {
-    for (what, bytes, number) in texts() {
+fn damaged_texts_and_long_lengths() {
+    for (what, bytes, number) in texts().into_iter().chain(long_lengths()) {
         assert_eq!(compare(&what, &bytes, PLACES), number, "{what}");
         compare_listing(&what, &bytes, LISTING);
     }

@@ -10,7 +10,7 @@ impl Network {
 
     pub const MAX_SIZE: u32 = 24;
 
-    pub const MAX_LENGTH: u32 = 99999;
+    pub const MAX_LENGTH: u32 = 999999;
 
     pub const MAX_LABEL: u32 = (Network::MAX_VERTICES - 1) * Network::MAX_LENGTH;
 

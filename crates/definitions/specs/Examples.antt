@@ -1,4 +1,5 @@
--- Document 01, "Depot examples": P1 to P12, rows of one table closed by one statement, by computation from the definitions.
+-- Document 01, "Depot examples": P1 to P12, rows of one table closed by one statement, by computation from the definitions. The second half of P12 is
+-- that of document 02, request 1.
 use mathlib.Core.Path.{_≡_, refl}
 use mathlib.Core.List.{List, [], _∷_, _++_, map, flatMap}
 use Prim.Native.Nat.{ℕ, pred}
@@ -27,13 +28,20 @@ bytes : String → List ℕ
 bytes empty = []
 bytes (c before cs) = code c ∷ bytes cs
 
--- the depot example's text with a question line
-depot : String → List ℕ
-depot question = bytes "     5     1\n     4     1     2     3     4\n     0     3     7     5\n     3     0     4     6\n     7     4     0     2\n     5     6     2     0\n" ++ bytes question
+-- the depot example's text with a first row of the table and a question line
+depotWith : String → String → List ℕ
+depotWith first question =
+    bytes "     5     1\n     4     1     2     3     4\n" ++ (bytes first ++ (bytes "     3     0     4     6\n     7     4     0     2\n     5     6     2     0\n" ++ bytes question))
 
--- the same with 100000 for the length from vertex 1 to vertex 2
-tooLong : List ℕ
-tooLong = bytes "     5     1\n     4     1     2     3     4\n     0100000     7     5\n     3     0     4     6\n     7     4     0     2\n     5     6     2     0\n     1\n"
+depot : String → List ℕ
+depot question = depotWith "     0     3     7     5\n" question
+
+-- with 100000 for the length from vertex 1 to vertex 2; with the same on the diagonal
+longRun : List ℕ
+longRun = depotWith "     0100000     7     5\n" "     1\n"
+
+longDiagonal : List ℕ
+longDiagonal = depotWith "100000     3     7     5\n" "     1\n"
 
 -- ---- what is run, and what it shows
 
@@ -139,12 +147,16 @@ done answers kept inserted removed = leaves 0 (padded answerPlaces 0 answers) (p
 onBlock : ℕ → List (List ℕ) → List ℕ → List ℕ → ℕ → ℕ → Row
 onBlock p ks answers kept inserted removed = row p (calls (5 ∷ 7 ∷ []) (6 ∷ 4 ∷ []) ks) (done answers kept inserted removed)
 
+-- what the reader leaves of the depot example with a first row of the table
+depotFills : List ℕ → Shown
+depotFills first =
+    fills 0 5 1 1 (padded sizePlaces 0 (4 ∷ [])) (padded vertexPlaces 0 (1 ∷ 2 ∷ 3 ∷ 4 ∷ []))
+    (padded lengthPlaces 0 (flatMap (padded rowPlaces 0) (first ∷ (3 ∷ 0 ∷ 4 ∷ 6 ∷ []) ∷ (7 ∷ 4 ∷ 0 ∷ 2 ∷ []) ∷ (5 ∷ 6 ∷ 2 ∷ 0 ∷ []) ∷ [])))
+
 pub table : List Row
 table =
     row 1 (program (depot "     1\n")) (writes (bytes "        1        4        8        8\n        1        0\n        2        3\n        3        7\n        4        5\n        5        -\n"))
-    ∷ row 1 (read (depot "     1\n"))
-    (fills 0 5 1 1 (padded sizePlaces 0 (4 ∷ [])) (padded vertexPlaces 0 (1 ∷ 2 ∷ 3 ∷ 4 ∷ []))
-    (padded lengthPlaces 0 (flatMap (padded rowPlaces 0) ((0 ∷ 3 ∷ 7 ∷ 5 ∷ []) ∷ (3 ∷ 0 ∷ 4 ∷ 6 ∷ []) ∷ (7 ∷ 4 ∷ 0 ∷ 2 ∷ []) ∷ (5 ∷ 6 ∷ 2 ∷ 0 ∷ []) ∷ []))))
+    ∷ row 1 (read (depot "     1\n")) (depotFills (0 ∷ 3 ∷ 7 ∷ 5 ∷ []))
     ∷ row 1 (lent (depot "     1\n")) (lists 4 8 8 (padded labelPlaces unreached (0 ∷ 3 ∷ 7 ∷ 5 ∷ [])))
     ∷ row 2 (labelled (depot "     5\n")) (counts 1 0 0)
     ∷ row 2 (lent (depot "     5\n")) (lists 1 0 0 (padded labelPlaces unreached (unreached ∷ unreached ∷ unreached ∷ unreached ∷ 0 ∷ [])))
@@ -160,11 +172,13 @@ table =
     ∷ onBlock 11 (activation 0 0 ∷ extraction ∷ activation 1 4 ∷ []) (0 ∷ 0 ∷ 0 ∷ 0 ∷ 0 ∷ 5 ∷ 11 ∷ 0 ∷ 0 ∷ []) (0 ∷ 1 ∷ 1 ∷ []) 2 1
     ∷ onBlock 11 (activation 0 0 ∷ extraction ∷ activation 1 5 ∷ []) (0 ∷ 0 ∷ 0 ∷ 0 ∷ 0 ∷ 5 ∷ 0 ∷ 0 ∷ 0 ∷ []) (0 ∷ 1 ∷ 1 ∷ []) 2 1
     ∷ row 12 (field "    00") (refuses 3)
-    ∷ row 12 (labelled tooLong) (refuses 6)
-    ∷ row 12 (read tooLong) (fills 6 0 0 0 (replicate sizePlaces 0) (replicate vertexPlaces 0) (replicate lengthPlaces 0))
+    ∷ row 12 (program longRun) (writes (bytes "        1        4        8        8\n        1        0\n        2       11\n        3        7\n        4        5\n        5        -\n"))
+    ∷ row 12 (read longRun) (depotFills (0 ∷ 100000 ∷ 7 ∷ 5 ∷ []))
+    ∷ row 12 (lent longRun) (lists 4 8 8 (padded labelPlaces unreached (0 ∷ 11 ∷ 7 ∷ 5 ∷ [])))
+    ∷ row 12 (read longDiagonal) (fills 6 0 0 0 (replicate sizePlaces 0) (replicate vertexPlaces 0) (replicate lengthPlaces 0))
     ∷ []
 
--- every row shows what document 01 says
+-- every row shows what document 01 says, P12 with request 1 of document 02
 pub examples : map (λ r. run (r .example)) table ≡ map (λ r. r .shown) table
-unfolding bytes depot tooLong countsOf readInto filled labelLent listed entriesOf blockIn runSession left run row activation extraction done onBlock table flatMap all every mem different total upFrom downTo padded within firstCause splits splitsOf windows windowsOf rowsOf columnsOf corners isMonge lesser least through parent available placed leastFrom adjoins joined prepend prependColumn runs intervals sameInterval isKept countNew isActivated judge activate extract step extend traceFrom trace entry sizeOf blockOf blocksOf blocks passes freshBlock apply leastOf placeOf activateAt activateVertex labelOf settleAs settle chosen placeIn extractFrom advance steps start columns labelling reached extractions insertions heldLabel labels judgeBounds judgeSize judgeVertices judgeRow judgeRows judgeBlocks judgeSource judgePiece pieceAt piecesOf judgeFrom judgeNetwork isDigit skipBlanks isNumeral numeralValue fieldOf fieldAt lengthAt readField readFields judgeLineEnd readLine readRows readPiece pieceBytes readPieces judgeEnd readBody readPlan judgeLength readText sizesOf verticesOf tableOf lengthsOf hasPlaces judgeBuffers afterRead reading judgeLabelling labelAnswer labelNetwork rectangleOf judgeSession callAt callsOf answersOf intervalsOf session digitsOf decimal rightJustified nineColumns listingLine refusalLine stateListing planListing listing
+unfolding bytes depotWith depot longRun longDiagonal depotFills countsOf readInto filled labelLent listed entriesOf blockIn runSession left run row activation extraction done onBlock table flatMap all every mem different total upFrom downTo padded within firstCause splits splitsOf windows windowsOf rowsOf columnsOf corners isMonge lesser least through parent available placed leastFrom adjoins joined prepend prependColumn runs intervals sameInterval isKept countNew isActivated judge activate extract step extend traceFrom trace entry sizeOf blockOf blocksOf blocks passes freshBlock apply leastOf placeOf activateAt activateVertex labelOf settleAs settle chosen placeIn extractFrom advance steps start columns labelling reached extractions insertions heldLabel labels judgeBounds judgeSize judgeVertices judgeRow judgeRows judgeBlocks judgeSource judgePiece pieceAt piecesOf judgeFrom judgeNetwork isDigit skipBlanks isNumeral numeralValue fieldOf fieldAt lengthAt readField readFields judgeLineEnd readLine readRows readPiece pieceBytes readPieces judgeEnd readBody readPlan judgeLength readText sizesOf verticesOf tableOf lengthsOf hasPlaces judgeBuffers afterRead reading judgeLabelling labelAnswer labelNetwork rectangleOf judgeSession callAt callsOf answersOf intervalsOf session digitsOf decimal rightJustified nineColumns listingLine refusalLine stateListing planListing listing
 examples = refl

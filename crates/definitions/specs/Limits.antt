@@ -1,4 +1,4 @@
--- The limits of document 01, each number under one name, and the two operations on lengths. What follows from another number is computed from it.
+-- The limits of documents 01 and 02, each number under one name, and the two operations on lengths. What follows from another number is computed from it.
 --   maxVertices maxPieces maxSize maxLength maxLabel   of a network
 --   maxSide maxCalls maxText                           of a session and of a text
 --   rowPlaces .. intervalPlaces, linePlaces            the sizes of the lent buffers
@@ -6,7 +6,7 @@
 --   callSize answerSize intervalSize                   how many numbers a call, an answer and an interval are
 --   unreached unusedInterval                           what stands where there is no label, no interval
 --   sum below                                          a label and a length; the order of sums
--- Each comment names the section of 01 that the lines below it state.
+-- Each comment names the section of 01, or the request of 02, that the lines below it state.
 use mathlib.Core.Bool.{Bool}
 use Prim.Native.Nat.{ℕ, _+_, _-_, _*_}
 use lib.Dec.{ltb}
@@ -21,8 +21,9 @@ maxPieces = 16
 abbrev pub maxSize : ℕ
 maxSize = 24
 
+-- (02, request 1) It fills a field of a text.
 abbrev pub maxLength : ℕ
-maxLength = 99999
+maxLength = 999999
 
 -- A shortest walk has at most one arc fewer than there are vertices. No activation may bring a larger label.
 abbrev pub maxLabel : ℕ

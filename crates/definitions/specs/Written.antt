@@ -1,13 +1,16 @@
 -- Document 01, "Text layout": a plan as its lines, and the plans that no cause turns away. The file `Text` says that these are what is read.
 --   writtenField writtenLine writtenPiece written   a number, a line, a piece and a plan as bytes
 --   SoundPiece SoundPlan                            no cause turns it away, and each table is as large as its piece
+--   StoppedPiece DiagonalFirst                      the first cause is a length on the diagonal that is not 0
 use mathlib.Core.Path.{_≡_}
 use mathlib.Core.List.{List, [], _∷_, _++_, flatMap}
-use Prim.Native.Nat.{ℕ}
-use lib.ListN.{length}
+use mathlib.Core.Logic.{_≢_}
+use Prim.Native.Nat.{ℕ, _≤_, _<_}
+use lib.ListN.{getD, length}
+use Rattle.definitions.specs.Limits.{maxLength}
 use Rattle.definitions.specs.Lists.{Every}
 use Rattle.definitions.specs.Network.{Piece, sizeOf}
-use Rattle.definitions.specs.Judgement.{judgeBounds, judgePiece, judgeSource}
+use Rattle.definitions.specs.Judgement.{judgeBounds, judgeSize, judgeVertices, judgeRows, judgePiece, judgeSource}
 use Rattle.definitions.specs.Fields.{lineEnd, fieldBytes, decimal, rightJustified}
 use Rattle.definitions.specs.Reading.{Plan}
 
@@ -42,3 +45,34 @@ pub record SoundPlan (plan : Plan) : Type 0 where
   pub bounds : judgeBounds (plan .n) (length (plan .pieces)) ≡ 0
   pub each : Every (SoundPiece (plan .n)) (plan .pieces)
   pub source-in : judgeSource (plan .n) (plan .source) ≡ 0
+
+-- ---- stopped at a diagonal
+
+-- A piece up to one of its rows, in a network of n vertices: q has its vertices and the rows in front of that row.
+pub record StoppedPiece (n : ℕ) (q : Piece) (row : List ℕ) : Type 0 where
+  -- no cause turns its size, its vertices or the rows in front away
+  pub size : judgeSize (sizeOf q) ≡ 0
+  pub vertices-in : judgeVertices n (q .vertices) ≡ 0
+  pub judged : judgeRows 0 (q .rows) ≡ 0
+  -- a row more belongs to it; all have as many lengths as it has vertices, and those of this row are within the limit
+  pub row-more : length (q .rows) < sizeOf q
+  pub wide : Every (λ r. length r ≡ sizeOf q) (row ∷ q .rows)
+  pub short : Every (λ l. l ≤ maxLength) row
+  -- but that on the diagonal is not 0
+  pub diagonal : getD row (length (q .rows)) 0 ≢ 0
+
+-- A text in which such a row is the first cause from front to back.
+pub record DiagonalFirst (text : List ℕ) : Type 0 where
+  pub n : ℕ
+  pub p : ℕ
+  -- the pieces in front, the piece of the row up to it, the row, and bytes of any kind
+  pub before : List Piece
+  pub piece : Piece
+  pub row : List ℕ
+  pub behind : List ℕ
+  pub lines : text ≡ writtenLine (n ∷ p ∷ []) ++ (flatMap writtenPiece before ++ (writtenPiece piece ++ (writtenLine row ++ behind)))
+  -- no cause turns n, p or a piece in front away; a piece more belongs to the network
+  pub bounds : judgeBounds n p ≡ 0
+  pub each : Every (SoundPiece n) before
+  pub piece-more : length before < p
+  pub stopped : StoppedPiece n piece row

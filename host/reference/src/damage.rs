@@ -83,8 +83,7 @@ const DAMAGES: &[Damage] = &[
     ("gate n + 1", &[(1, "     4     1     2     3     6")], 5),
     ("a gate twice", &[(1, "     4     1     2     3     2")], 5),
     ("a diagonal not 0", &[(4, "     7     4     1     2")], 6),
-    ("P12: a length of six digits", &[(2, "     0     3     7100000")], 6),
-    ("the longest length that six columns hold", &[(5, "999999     6     2     0")], 6),
+    ("a diagonal of six digits", &[(4, "     7     4999999     2")], 6),
     ("P5: a block fails", &[(2, "     0     3     7    10")], 7),
     ("source 0", &[(6, "     0")], 8),
     ("source n + 1", &[(6, "     6")], 8),
@@ -95,7 +94,7 @@ const DAMAGES: &[Damage] = &[
     ("a gate twice and a later field bad", &[(1, "     4     2     2     3     x")], 3),
     ("a gate twice and the first row bad", &[(1, "     4     2     2     3     4"), (2, "x")], 5),
     ("a gate twice and a diagonal not 0", &[(1, "     4     2     2     3     4"), (2, "     1     3     7     5")], 5),
-    ("a length too long and a later field bad", &[(2, "     0100000     7     x")], 3),
+    ("a diagonal not 0 and a later field bad", &[(2, "100000     3     7     x")], 3),
     ("a diagonal not 0 and the next row bad", &[(2, "     1     3     7     5"), (3, "x")], 6),
     ("a block fails and a later diagonal is not 0", &[(2, "     0     3     7    10"), (5, "     5     6     2     9")], 6),
     ("a block fails and the question line is bad", &[(2, "     0     3     7    10"), (6, "x")], 7),
@@ -125,6 +124,23 @@ pub fn texts() -> Vec<(String, Vec<u8>, u32)> {
     add("60,000 bytes", depot_and(&vec![b' '; 60_000 - depot.len()]), 3);
     add("60,001 bytes", depot_and(&vec![b' '; 60_001 - depot.len()]), 2);
     add("60,001 bytes of nothing", vec![0; 60_001], 2);
+    all
+}
+
+/// The depot's text with a length of six digits at each place of its table: what and where, the text, the number. Two of each block's
+/// four places are on the larger side of its check.
+pub fn long_lengths() -> Vec<(String, Vec<u8>, u32)> {
+    let numbers = [[6, 0, 0, 7], [0, 6, 7, 0], [0, 7, 6, 0], [7, 0, 0, 6]];
+    let mut all = Vec::new();
+    for length in ["100000", "999999"] {
+        for (i, row) in numbers.iter().enumerate() {
+            for (j, &number) in row.iter().enumerate() {
+                let mut line = DEPOT[2 + i].to_string();
+                line.replace_range(6 * j..6 * j + 6, length);
+                all.push((format!("{length} at ({i}, {j})"), depot_with(&[(2 + i, &line)]), number));
+            }
+        }
+    }
     all
 }
 

@@ -2,7 +2,7 @@
 
 use std::ops::Range;
 
-// The bounds and the sizes of the lent buffers, as document 01 has them. They are the reference's own: it knows nothing of the
+// The bounds and the sizes of the lent buffers, as documents 01 and 02 have them. They are the reference's own: it knows nothing of the
 // proved library, so that a wrong number there shows as a difference.
 
 /// The most vertices of a network.
@@ -12,7 +12,7 @@ pub const MAX_PIECES: u32 = 16;
 /// The most vertices of a piece, rows of a session and columns of a session.
 pub const MAX_SIZE: u32 = 24;
 /// The largest length.
-pub const MAX_LENGTH: u32 = 99_999;
+pub const MAX_LENGTH: u32 = 999_999;
 /// The most calls of a session.
 pub const MAX_CALLS: u32 = 64;
 /// The most bytes of a text.

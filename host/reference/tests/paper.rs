@@ -1,14 +1,14 @@
 //! The model against the scope document: the depot examples, and the causes that its table names.
 
-use reference::damage::{depot_with, text, texts, DEPOT, DEPOT_LISTING};
+use reference::damage::{depot_with, long_lengths, text, texts, DEPOT, DEPOT_LISTING};
 use reference::entries::{check_network, label_network};
 use reference::model::{Model, MAX_LABEL, UNREACHED};
 use reference::network::{is_monge, Lent};
 use reference::network::{
-    ANSWERS, CALLS, INTERVALS, LABELS, LENGTHS, LINE, LISTING, RECTANGLE, SIZES, VERTICES,
+    ANSWERS, CALLS, INTERVALS, LABELS, LENGTHS, LINE, LISTING, MAX_LENGTH, RECTANGLE, SIZES, VERTICES,
 };
 use reference::number_of;
-use reference::text::{listing, read};
+use reference::text::{field, listing, read};
 
 #[test]
 fn p1_and_p2() {
@@ -57,11 +57,22 @@ fn p6_to_p11() {
 }
 
 #[test]
+fn p12() {
+    assert_eq!(field(b"    00"), Err(3));
+    for (what, bytes, number) in long_lengths() {
+        assert_eq!(number_of(read(&bytes)), number, "{what}");
+    }
+    let mut lines = DEPOT_LISTING;
+    lines[2] = "        2       11";
+    assert_eq!(listing(&depot_with(&[(2, "     0100000     7     5")])), text(&lines));
+}
+
+#[test]
 fn sizes_and_bounds_are_the_stated_ones() {
     assert_eq!([SIZES, VERTICES, LENGTHS, LABELS], [16, 384, 9_216, 256]);
     assert_eq!([RECTANGLE, CALLS, ANSWERS, INTERVALS], [576, 192, 192, 72]);
     assert_eq!([LINE, LISTING], [36, 4_901]);
-    assert_eq!(MAX_LABEL, 25_499_745);
+    assert_eq!([MAX_LENGTH, MAX_LABEL], [999_999, 254_999_745]);
 }
 
 #[test]
@@ -89,7 +100,8 @@ fn a_network_is_judged_in_the_stated_order() {
     assert_eq!(check(&|l| l.sizes[0] = 25), 4);
     assert_eq!(check(&|l| l.vertices[1] = 1), 5);
     assert_eq!(check(&|l| l.lengths[25] = 1), 6);
-    assert_eq!(check(&|l| l.lengths[1] = 100_000), 6);
+    assert_eq!(check(&|l| l.lengths[1] = 999_999), 0);
+    assert_eq!(check(&|l| l.lengths[1] = 1_000_000), 6);
     assert_eq!(check(&|l| l.lengths[3] = 10), 7);
     assert_eq!(check(&|l| l.lengths[4] = u32::MAX), 0); // not read
     let mut labels = [7; LABELS];

@@ -25,7 +25,7 @@ use Rattle.definitions.specs.Laws.FieldBound.{maxField}
 use Rattle.definitions.specs.Laws.FieldBack.{length-written, field-back}
 
 -- numbers that have room in their fields
-abbrev Small : List ℕ → Type 0
+abbrev pub Small : List ℕ → Type 0
 Small xs = Every (λ x. x ≤ maxField) xs
 
 -- the text behind bytes that stand at a place
@@ -57,7 +57,7 @@ module _ (field : FieldReading) (same : Reads field) where
       let z : at + fieldBytes * suc (length xs) ≡ at + fieldBytes + fieldBytes * length xs = omega arith in
       (rw (read-back text at x (flatMap writtenField xs ++ rest) (s .0) here, more .0), rw z (more .1))
 
-  line-back : (text : List ℕ) (at : ℕ) (xs rest : List ℕ) (k : ℕ) → length xs ≡ k → Small xs → drop at text ≡ writtenLine xs ++ rest
+  pub line-back : (text : List ℕ) (at : ℕ) (xs rest : List ℕ) (k : ℕ) → length xs ≡ k → Small xs → drop at text ≡ writtenLine xs ++ rest
       → (readLine field text at k ≡ value xs) × (drop (at + lineBytes k) text ≡ rest)
   unfolding readLine writtenLine judgeLineEnd
   line-back text at xs rest k l s h =
@@ -73,7 +73,7 @@ module _ (field : FieldReading) (same : Reads field) where
 
 -- ---- rows
 
-rows-back : (text : List ℕ) (at m i : ℕ) (rows : List (List ℕ)) (rest : List ℕ) → Every (λ row. length row ≡ m) rows → Every Short rows → judgeRows i rows ≡ 0
+pub rows-back : (text : List ℕ) (at m i : ℕ) (rows : List (List ℕ)) (rest : List ℕ) → Every (λ row. length row ≡ m) rows → Every Short rows → judgeRows i rows ≡ 0
     → drop at text ≡ flatMap writtenLine rows ++ rest
     → (readRows text at m i (length rows) ≡ value rows) × (drop (at + length rows * lineBytes m) text ≡ rest)
 unfolding readRows flatMap judgeRows
@@ -89,7 +89,7 @@ rows-back text at m i (row ∷ rows) rest w s j h =
 -- ---- a piece
 
 -- the size and the line of the vertices
-sized-back : (text : List ℕ) (at m : ℕ) (vertices rest : List ℕ) → m ≤ maxField → Small vertices → length vertices ≡ m → drop at text ≡ writtenLine (m ∷ vertices) ++ rest
+pub sized-back : (text : List ℕ) (at m : ℕ) (vertices rest : List ℕ) → m ≤ maxField → Small vertices → length vertices ≡ m → drop at text ≡ writtenLine (m ∷ vertices) ++ rest
     → (readField fieldAt text at ≡ value m) × (readLine fieldAt text (at + fieldBytes) m ≡ value vertices) × (drop (at + lineBytes (suc m)) text ≡ rest)
 unfolding writtenLine flatMap
 sized-back text at m vertices rest s t l h =
@@ -114,7 +114,7 @@ piece-back text n at q rest few s h =
     let z : at + (lineBytes (suc m) + m * lineBytes m) ≡ at + lineBytes (suc m) + m * lineBytes m = omega arith in
     (rw (line .0, causes .0, line .1, causes .1 .0, rows, causes .1 .1 .1 .0), rw z end)
 
-pieces-back : (text : List ℕ) (n at : ℕ) (qs : List Piece) (rest : List ℕ) → n ≤ maxField → Every (SoundPiece n) qs → drop at text ≡ flatMap writtenPiece qs ++ rest
+pub pieces-back : (text : List ℕ) (n at : ℕ) (qs : List Piece) (rest : List ℕ) → n ≤ maxField → Every (SoundPiece n) qs → drop at text ≡ flatMap writtenPiece qs ++ rest
     → (readPieces text n at (length qs) ≡ value qs) × (drop (at + total (map pieceBytes qs)) text ≡ rest)
 unfolding readPieces flatMap total
 pieces-back text n at [] rest few s h = let z : at + 0 ≡ at = omega arith in (refl, rw z h)

@@ -25,14 +25,14 @@ use Rattle.definitions.specs.Laws.FieldProofs.{field-written}
 -- ---- what was read from a place on
 
 -- the text from a place on: so many bytes, which are these, and then the text from behind them on
-abbrev Stands : List ℕ → ℕ → ℕ → List ℕ → Type 0
+abbrev pub Stands : List ℕ → ℕ → ℕ → List ℕ → Type 0
 Stands text at size bytes = drop at text ≡ bytes ++ drop (at + size) text
 
 -- nothing; one part behind the other
 stands-none : (text : List ℕ) (at : ℕ) → Stands text at 0 []
 stands-none text at = let z : at + 0 ≡ at = omega arith in rw z
 
-stands-both : (text : List ℕ) (at a b : ℕ) (xs ys : List ℕ) → Stands text at a xs → Stands text (at + a) b ys → Stands text at (a + b) (xs ++ ys)
+pub stands-both : (text : List ℕ) (at a b : ℕ) (xs ys : List ℕ) → Stands text at a xs → Stands text (at + a) b ys → Stands text at (a + b) (xs ++ ys)
 stands-both text at a b xs ys h k =
     let z : at + a + b ≡ at + (a + b) = omega arith in
     h ∙ rw (k, z) (sym (append-assoc xs ys (drop (at + (a + b)) text)))
@@ -63,7 +63,7 @@ pub length-reads : Reads lengthAt
 unfolding lengthAt
 length-reads text at = refl
 
-read-field-written : (field : FieldReading) → Reads field → (text : List ℕ) (at x : ℕ) → readField field text at ≡ value x → Stands text at fieldBytes (writtenField x)
+pub read-field-written : (field : FieldReading) → Reads field → (text : List ℕ) (at x : ℕ) → readField field text at ≡ value x → Stands text at fieldBytes (writtenField x)
 read-field-written field same text at x e = field-at text at x (sym (same text at) ∙ field-value field text at x e)
 
 fields-written : (field : FieldReading) → Reads field → (text : List ℕ) (at k : ℕ) (xs : List ℕ) → readFields field text at k ≡ value xs → Stands text at (fieldBytes * k) (flatMap writtenField xs)
@@ -91,7 +91,7 @@ end-written text at e = go (truth (eqb (getD text at 0) lineEnd))
         drop-cons text at 0 inside ∙ rw (is, z)
     go (fails t) = let bad : _≡_ {A = ℕ} 3 0 = simp t at e in absurd (omega arith)
 
-line-written : (field : FieldReading) → Reads field → (text : List ℕ) (at k : ℕ) (xs : List ℕ) → readLine field text at k ≡ value xs → Stands text at (lineBytes k) (writtenLine xs)
+pub line-written : (field : FieldReading) → Reads field → (text : List ℕ) (at k : ℕ) (xs : List ℕ) → readLine field text at k ≡ value xs → Stands text at (lineBytes k) (writtenLine xs)
 unfolding readLine writtenLine
 line-written field same text at k xs e =
     let a = bind-value (readFields field text at k) _ xs e in
@@ -102,11 +102,11 @@ line-written field same text at k xs e =
 -- ---- rows
 
 -- k rows of m lengths, the first of them row i: they stand there, and each was judged
-record RowsRead (text : List ℕ) (at m i k : ℕ) (rows : List (List ℕ)) : Type 0 where
-  stands : Stands text at (k * lineBytes m) (flatMap writtenLine rows)
-  count : length rows ≡ k
-  wide : Every (λ row. length row ≡ m) rows
-  judged : judgeRows i rows ≡ 0
+pub record RowsRead (text : List ℕ) (at m i k : ℕ) (rows : List (List ℕ)) : Type 0 where
+  pub stands : Stands text at (k * lineBytes m) (flatMap writtenLine rows)
+  pub count : length rows ≡ k
+  pub wide : Every (λ row. length row ≡ m) rows
+  pub judged : judgeRows i rows ≡ 0
 
 no-rows : (text : List ℕ) (at m i : ℕ) → RowsRead text at m i 0 []
 unfolding judgeRows flatMap
@@ -124,7 +124,7 @@ row-more text at m i k row rows line long ok r = record {
   judged = rw (ok, r .judged);
 }
 
-rows-read : (text : List ℕ) (at m i k : ℕ) (rows : List (List ℕ)) → readRows text at m i k ≡ value rows → RowsRead text at m i k rows
+pub rows-read : (text : List ℕ) (at m i k : ℕ) (rows : List (List ℕ)) → readRows text at m i k ≡ value rows → RowsRead text at m i k rows
 unfolding readRows
 rows-read text at m i zero rows e = subst (RowsRead text at m i 0) (value-same [] rows e) (no-rows text at m i)
 rows-read text at m i (suc k) rows e =
@@ -146,7 +146,7 @@ record PieceRead (text : List ℕ) (n at : ℕ) (q : Piece) : Type 0 where
   sound : SoundPiece n q
 
 -- the size is the first field of the line of the vertices
-sized-line : (m : ℕ) (xs : List ℕ) → writtenField m ++ writtenLine xs ≡ writtenLine (m ∷ xs)
+pub sized-line : (m : ℕ) (xs : List ℕ) → writtenField m ++ writtenLine xs ≡ writtenLine (m ∷ xs)
 unfolding writtenLine flatMap
 sized-line m xs = sym (append-assoc (writtenField m) (flatMap writtenField xs) (lineEnd ∷ []))
 
@@ -189,10 +189,10 @@ piece-read text n at q e =
 
 -- ---- pieces
 
-record PiecesRead (text : List ℕ) (n at p : ℕ) (qs : List Piece) : Type 0 where
-  stands : Stands text at (total (map pieceBytes qs)) (flatMap writtenPiece qs)
-  count : length qs ≡ p
-  each : Every (SoundPiece n) qs
+pub record PiecesRead (text : List ℕ) (n at p : ℕ) (qs : List Piece) : Type 0 where
+  pub stands : Stands text at (total (map pieceBytes qs)) (flatMap writtenPiece qs)
+  pub count : length qs ≡ p
+  pub each : Every (SoundPiece n) qs
 
 no-pieces : (text : List ℕ) (n at : ℕ) → PiecesRead text n at 0 []
 unfolding total flatMap
@@ -206,7 +206,7 @@ piece-more text n at p q qs one r = record {
   each = (one .sound, r .each);
 }
 
-pieces-read : (text : List ℕ) (n at p : ℕ) (qs : List Piece) → readPieces text n at p ≡ value qs → PiecesRead text n at p qs
+pub pieces-read : (text : List ℕ) (n at p : ℕ) (qs : List Piece) → readPieces text n at p ≡ value qs → PiecesRead text n at p qs
 unfolding readPieces
 pieces-read text n at zero qs e = subst (PiecesRead text n at 0) (value-same [] qs e) (no-pieces text n at)
 pieces-read text n at (suc p) qs e =
@@ -224,7 +224,7 @@ one-number [] h = absurd (omega arith)
 one-number (x ∷ []) h = refl
 one-number (x ∷ y ∷ ys) h = absurd (omega arith)
 
-two-numbers : (xs : List ℕ) → length xs ≡ 2 → xs ≡ getD xs 0 0 ∷ getD xs 1 0 ∷ []
+pub two-numbers : (xs : List ℕ) → length xs ≡ 2 → xs ≡ getD xs 0 0 ∷ getD xs 1 0 ∷ []
 two-numbers [] h = absurd (omega arith)
 two-numbers (x ∷ []) h = absurd (omega arith)
 two-numbers (x ∷ y ∷ []) h = refl

@@ -1,0 +1,95 @@
+-- Which parts of a text are never refused by a number, and what that says where the whole is.
+--   Never past upto either         where the whole is refused by a number and one part never is, the other is
+--   value-never then-never cause-never   what is never refused by a number
+--   field-never line-never         a field and a line are refused by 3 only
+use mathlib.Core.Path.{_≡_, refl, sym, ap, _∙_}
+use mathlib.Core.Bool.{Bool, true, false, cond}
+use mathlib.Core.List.{List, [], _∷_}
+use mathlib.Core.Logic.{_≢_, _⊎_, inl, inr}
+use Prim.Native.Nat.{ℕ, zero, suc, _+_, _*_, _<_}
+use native.Mathlib.Omega.{arith}
+use lib.Dec.{eqb, leb}
+use lib.ListN.{getD, length, take, drop}
+use Rattle.logic.specs.Tests.{Truth, holds, fails, truth}
+use Rattle.definitions.specs.Fields.{lineEnd, fieldBytes, FieldAnswer, skipBlanks, isNumeral, fieldOf, fieldAt}
+use Rattle.definitions.specs.Reading.{FieldReading, Read, refused, value, _>>=_, require, readField, readFields, judgeLineEnd, readLine}
+use Rattle.definitions.specs.Laws.LineProofs.{Reads}
+
+-- not refused by the number k
+abbrev pub Never : {A : Type 0} → ℕ → Read A → Type 0
+Never k r = r ≡ refused k → ⊥
+
+-- ---- one part behind the other
+
+module _ {A B : Type 0} (k : ℕ) where
+  -- the first never is: it has been read
+  pub past : (r : Read A) (f : A → Read B) → Never k r → _>>=_ r f ≡ refused k → (a : A) × (r ≡ value a) × (f a ≡ refused k)
+  past (refused j) f n e = absurd (n cc)
+  past (value a) f n e = (a, refl, e)
+
+  -- the second never is
+  pub upto : (r : Read A) (f : A → Read B) → ((a : A) → Never k (f a)) → _>>=_ r f ≡ refused k → r ≡ refused k
+  upto (refused j) f n e = cc
+  upto (value a) f n e = absurd (n a e)
+
+  pub either : (r : Read A) (f : A → Read B) → _>>=_ r f ≡ refused k → (r ≡ refused k) ⊎ ((a : A) × (r ≡ value a) × (f a ≡ refused k))
+  either (refused j) f e = inl cc
+  either (value a) f e = inr (a, refl, e)
+
+  -- neither is
+  pub then-never : (r : Read A) (f : A → Read B) → Never k r → ((a : A) → Never k (f a)) → Never k (_>>=_ r f)
+  then-never (refused j) f n m e = n cc
+  then-never (value a) f n m e = m a e
+
+pub value-never : {A : Type 0} (k : ℕ) (a : A) → Never k (value a)
+value-never k a e = let z : _≡_ {A = ℕ} 0 1 = cc in omega arith
+
+-- ---- causes
+
+pub require-is : (k j : ℕ) → require j ≡ refused k → j ≡ k
+require-is k zero e = absurd (value-never k tt e)
+require-is k (suc j) e = cc
+
+-- a cause of another number
+pub cause-never : (k : ℕ) (b : Bool) (j : ℕ) → j ≢ k → Never k (require (cond b 0 j))
+cause-never k true j h e = value-never k tt e
+cause-never k false j h e = h (require-is k j e)
+
+-- ---- fields and lines
+
+bytes-never : (k : ℕ) (bytes : List ℕ) → 3 < k → (fieldOf bytes) .number ≢ k
+unfolding fieldOf
+bytes-never k bytes h e = go (truth (isNumeral (skipBlanks bytes)))
+  where
+    go : Truth (isNumeral (skipBlanks bytes)) → ⊥
+    go (holds t) = let z : 0 ≡ k = simp t at e in omega arith
+    go (fails t) = let z : 3 ≡ k = simp t at e in omega arith
+
+number-never : (k : ℕ) (text : List ℕ) (at : ℕ) → 3 < k → (fieldAt text at) .number ≢ k
+unfolding fieldAt
+number-never k text at h e = go (truth (leb (at + fieldBytes) (length text)))
+  where
+    go : Truth (leb (at + fieldBytes) (length text)) → ⊥
+    go (holds t) = bytes-never k (take fieldBytes (drop at text)) h (simp t at e)
+    go (fails t) = let z : 3 ≡ k = simp t at e in omega arith
+
+module _ (field : FieldReading) (same : Reads field) (k : ℕ) (h : 3 < k) where
+  pub field-never : (text : List ℕ) (at : ℕ) → Never k (readField field text at)
+  unfolding readField
+  field-never text at =
+      then-never k (require ((field text at) .number)) _
+      (λ e. number-never k text at h (ap (λ (f : FieldAnswer). f .number) (sym (same text at)) ∙ require-is k ((field text at) .number) e))
+      (λ _. value-never k ((field text at) .value))
+
+  fields-never : (text : List ℕ) (at m : ℕ) → Never k (readFields field text at m)
+  unfolding readFields
+  fields-never text at zero = value-never k []
+  fields-never text at (suc m) =
+      then-never k (readField field text at) _ (field-never text at)
+      (λ x. then-never k (readFields field text (at + fieldBytes) m) _ (fields-never text (at + fieldBytes) m) (λ xs. value-never k (x ∷ xs)))
+
+  pub line-never : (text : List ℕ) (at m : ℕ) → Never k (readLine field text at m)
+  unfolding readLine judgeLineEnd
+  line-never text at m =
+      then-never k (readFields field text at m) _ (fields-never text at m)
+      (λ xs. then-never k (require (judgeLineEnd text (at + fieldBytes * m))) _ (cause-never k (eqb (getD text (at + fieldBytes * m) 0) lineEnd) 3 (λ z. omega arith)) (λ _. value-never k xs))
