@@ -8,7 +8,7 @@
 
 use rabdzhine::{LABELS, LENGTHS, SIZES, VERTICES};
 use reference::network::{weight, Lent, Plan, MAX_VERTICES, ROOM};
-use reference::plans::{city, hostile, longest_street, Kind, Rng, KINDS, TOWN};
+use reference::plans::{city, hostile, longest_street, Kind, Rng, KINDS, TOWN_STREET};
 use reference::{dijkstra, fr_dijkstra, text};
 use std::hint::black_box;
 use std::time::Instant;
@@ -216,12 +216,13 @@ fn main() {
     println!("label and FR label include the check of the network.");
 
     let shapes = [(1, 1), (1, 2), (2, 2), (2, 4), (4, 4)];
-    let towns = shapes
-        .map(|(down, across)| (format!("{} x 24", down * across), city(down, across, 6, TOWN, &mut rng)));
+    let towns = shapes.map(|(down, across)| {
+        (format!("{} x 24", down * across), city(down, across, 6, TOWN_STREET, &mut rng))
+    });
     let a = series("A town of more and more districts of 24 gates", towns.into(), true);
 
-    let towns =
-        [1, 2, 3, 4, 5, 6].map(|side| (format!("16 x {}", 4 * side), city(4, 4, side, TOWN, &mut rng)));
+    let towns = [1, 2, 3, 4, 5, 6]
+        .map(|side| (format!("16 x {}", 4 * side), city(4, 4, side, TOWN_STREET, &mut rng)));
     let b = series("A town of 16 districts of more and more gates", towns.into(), true);
 
     let mut kinds: Vec<(String, Vec<Kind>)> = KINDS.map(|kind| (format!("{kind:?}"), vec![kind])).into();
@@ -231,8 +232,8 @@ fn main() {
         .map(|(name, kinds)| (name, hostile(MAX_VERTICES, &[ROOM; SIZES], &kinds, &mut rng)));
     let c = series("Hostile tables, 16 x 24", tables.collect(), false);
 
-    let lines =
-        [TOWN, longest_street(6)].map(|longest| (format!("to {longest}"), city(4, 4, 6, longest, &mut rng)));
+    let lines = [TOWN_STREET, longest_street(6)]
+        .map(|longest| (format!("to {longest}"), city(4, 4, 6, longest, &mut rng)));
     let d = series("Streets of a town and of an interurban line, 16 x 24", lines.into(), false);
 
     println!("\nLargest label/FR: {:.2}. The bar is 1.5.", a.max(b).max(c).max(d));

@@ -57,7 +57,7 @@ extern "C" {
 /* The largest length, in metres: it fills a field of a text. */
 #define RABDZHINE_MAX_LENGTH UINT32_C(999999)
 
-/* The largest label, and the largest value of a tell: a run of 255 such lengths. */
+/* The largest label, and the largest value of a tell: a run of 255 such lengths. A take's sum may be RABDZHINE_MAX_LENGTH more. */
 #define RABDZHINE_MAX_LABEL UINT32_C(254999745)
 
 /*

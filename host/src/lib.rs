@@ -54,7 +54,7 @@ pub const LISTING: usize = 4901;
 pub const UNREACHED: u32 = u32::MAX;
 /// The largest length, in metres: it fills a field of a text.
 pub const MAX_LENGTH: u32 = 999_999;
-/// The largest label, and the largest value of a tell: a run of 255 such lengths.
+/// The largest label, and the largest value of a tell: a run of 255 such lengths. A take's sum may be [`MAX_LENGTH`] more.
 pub const MAX_LABEL: u32 = 254_999_745;
 
 // The stack that a call of each entry may take, in bytes, with a margin; `tests/stack` measures it.

@@ -1,7 +1,8 @@
 //! The field reader and the field writer against the model.
 
-use rabdzhine::{read_field, write_field, LINE, MAX_LABEL, MAX_LENGTH};
+use rabdzhine::{read_field, write_field, LINE, MAX_LABEL};
 use reference::entries;
+use reference::network::MAX_FIELD;
 use reference::plans::Rng;
 
 fn compare_read(text: &[u8], at: usize, places: usize) {
@@ -17,7 +18,7 @@ fn fields_are_read() {
     assert_eq!((read_field(b"  1024", 0, &mut value), value), (0, [1024]));
     assert_eq!((read_field(b"    00", 0, &mut value), value), (3, [0]));
     let mut rng = Rng::new(1);
-    let numbers = [0, 1, 9, 10, 99, 100, 1_000, 99_999, 100_000, MAX_LENGTH];
+    let numbers = [0, 1, 9, 10, 99, 100, 1_000, 99_999, 100_000, MAX_FIELD];
     for x in numbers {
         compare_read(format!("{x:6}").as_bytes(), 0, 1);
         compare_read(format!("{x:06}").as_bytes(), 0, 1);

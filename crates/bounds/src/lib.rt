@@ -1,4 +1,4 @@
-// Numbers of document 01 that several crates share.
+// Numbers of documents 01 and 02 that several crates share.
 
 // The bounds of a network and the sizes of its lent buffers.
 pub struct Network;

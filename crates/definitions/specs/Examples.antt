@@ -37,8 +37,8 @@ depot : String → List ℕ
 depot question = depotWith "     0     3     7     5\n" question
 
 -- with 100000 for the length from vertex 1 to vertex 2; with the same on the diagonal
-longRun : List ℕ
-longRun = depotWith "     0100000     7     5\n" "     1\n"
+longLength : List ℕ
+longLength = depotWith "     0100000     7     5\n" "     1\n"
 
 longDiagonal : List ℕ
 longDiagonal = depotWith "100000     3     7     5\n" "     1\n"
@@ -172,13 +172,13 @@ table =
     ∷ onBlock 11 (activation 0 0 ∷ extraction ∷ activation 1 4 ∷ []) (0 ∷ 0 ∷ 0 ∷ 0 ∷ 0 ∷ 5 ∷ 11 ∷ 0 ∷ 0 ∷ []) (0 ∷ 1 ∷ 1 ∷ []) 2 1
     ∷ onBlock 11 (activation 0 0 ∷ extraction ∷ activation 1 5 ∷ []) (0 ∷ 0 ∷ 0 ∷ 0 ∷ 0 ∷ 5 ∷ 0 ∷ 0 ∷ 0 ∷ []) (0 ∷ 1 ∷ 1 ∷ []) 2 1
     ∷ row 12 (field "    00") (refuses 3)
-    ∷ row 12 (program longRun) (writes (bytes "        1        4        8        8\n        1        0\n        2       11\n        3        7\n        4        5\n        5        -\n"))
-    ∷ row 12 (read longRun) (depotFills (0 ∷ 100000 ∷ 7 ∷ 5 ∷ []))
-    ∷ row 12 (lent longRun) (lists 4 8 8 (padded labelPlaces unreached (0 ∷ 11 ∷ 7 ∷ 5 ∷ [])))
+    ∷ row 12 (program longLength) (writes (bytes "        1        4        8        8\n        1        0\n        2       11\n        3        7\n        4        5\n        5        -\n"))
+    ∷ row 12 (read longLength) (depotFills (0 ∷ 100000 ∷ 7 ∷ 5 ∷ []))
+    ∷ row 12 (lent longLength) (lists 4 8 8 (padded labelPlaces unreached (0 ∷ 11 ∷ 7 ∷ 5 ∷ [])))
     ∷ row 12 (read longDiagonal) (fills 6 0 0 0 (replicate sizePlaces 0) (replicate vertexPlaces 0) (replicate lengthPlaces 0))
     ∷ []
 
 -- every row shows what document 01 says, P12 with request 1 of document 02
 pub examples : map (λ r. run (r .example)) table ≡ map (λ r. r .shown) table
-unfolding bytes depotWith depot longRun longDiagonal depotFills countsOf readInto filled labelLent listed entriesOf blockIn runSession left run row activation extraction done onBlock table flatMap all every mem different total upFrom downTo padded within firstCause splits splitsOf windows windowsOf rowsOf columnsOf corners isMonge lesser least through parent available placed leastFrom adjoins joined prepend prependColumn runs intervals sameInterval isKept countNew isActivated judge activate extract step extend traceFrom trace entry sizeOf blockOf blocksOf blocks passes freshBlock apply leastOf placeOf activateAt activateVertex labelOf settleAs settle chosen placeIn extractFrom advance steps start columns labelling reached extractions insertions heldLabel labels judgeBounds judgeSize judgeVertices judgeRow judgeRows judgeBlocks judgeSource judgePiece pieceAt piecesOf judgeFrom judgeNetwork isDigit skipBlanks isNumeral numeralValue fieldOf fieldAt lengthAt readField readFields judgeLineEnd readLine readRows readPiece pieceBytes readPieces judgeEnd readBody readPlan judgeLength readText sizesOf verticesOf tableOf lengthsOf hasPlaces judgeBuffers afterRead reading judgeLabelling labelAnswer labelNetwork rectangleOf judgeSession callAt callsOf answersOf intervalsOf session digitsOf decimal rightJustified nineColumns listingLine refusalLine stateListing planListing listing
+unfolding bytes depotWith depot longLength longDiagonal depotFills countsOf readInto filled labelLent listed entriesOf blockIn runSession left run row activation extraction done onBlock table flatMap all every mem different total upFrom downTo padded within firstCause splits splitsOf windows windowsOf rowsOf columnsOf corners isMonge lesser least through parent available placed leastFrom adjoins joined prepend prependColumn runs intervals sameInterval isKept countNew isActivated judge activate extract step extend traceFrom trace entry sizeOf blockOf blocksOf blocks passes freshBlock apply leastOf placeOf activateAt activateVertex labelOf settleAs settle chosen placeIn extractFrom advance steps start columns labelling reached extractions insertions heldLabel labels judgeBounds judgeSize judgeVertices judgeRow judgeRows judgeBlocks judgeSource judgePiece pieceAt piecesOf judgeFrom judgeNetwork isDigit skipBlanks isNumeral numeralValue fieldOf fieldAt lengthAt readField readFields judgeLineEnd readLine readRows readPiece pieceBytes readPieces judgeEnd readBody readPlan judgeLength readText sizesOf verticesOf tableOf lengthsOf hasPlaces judgeBuffers afterRead reading judgeLabelling labelAnswer labelNetwork rectangleOf judgeSession callAt callsOf answersOf intervalsOf session digitsOf decimal rightJustified nineColumns listingLine refusalLine stateListing planListing listing
 examples = refl

@@ -5,7 +5,7 @@
 --   FieldProofs LineProofs FieldBack LineBack of `readText` in the file Text: from a text to its plan, and back; for one field, for all lines
 --   TextLaws                                  the same, of the whole text
 --   NeverRefused Diagonal                     what a text is refused for: of `refused-by-6-exactly` in the file Text
---   FieldBound                                the bound on a field's value, on which the field reader of the code rests too
+--   FieldBound                                the bound on a field's value; its steps, a digit more, serve the code's reader too
 --   Members Causes ReadLaws                   parts of these: members of lists, causes that are 0, what was read taken apart
 pub mod Members
 pub mod Causes

@@ -1,4 +1,4 @@
--- Document 01, "Text layout": what an accepted text is, and what the reader leaves of it in the lent buffers.
+-- Document 01, "Text layout": what an accepted text is, what 6 is left for, and what the reader leaves in the lent buffers.
 --   accepted-exactly                 what reading comes to: a text is accepted exactly if it is the lines of a plan that no cause turns away
 --   no-length-too-long               no length field of a text is above the limit
 --   refused-by-6-exactly             so a text is refused by 6 exactly if its first cause is a diagonal that is not 0
@@ -27,6 +27,7 @@ accepted-exactly text plan = (accepted-is text plan, accepted-back text plan)
 pub no-length-too-long : (text : List ℕ) (at : ℕ) → (lengthAt text at) .value ≤ maxLength
 no-length-too-long = length-bound
 
+-- A row is then refused for its diagonal only, where no cause stands before it.
 pub refused-by-6-exactly : (text : List ℕ) → readText text ≡ refused 6 ↔ (length text ≤ maxText) × DiagonalFirst text
 refused-by-6-exactly text = (diagonal-is text, diagonal-back text)
 

@@ -1,4 +1,5 @@
--- Document 01, "Text layout": a plan as its lines, and the plans that no cause turns away. The file `Text` says that these are what is read.
+-- Document 01, "Text layout": a plan as its lines, the plans that no cause turns away, and the texts whose first cause is a diagonal. The file `Text` says which of
+-- them are read and which are refused by 6.
 --   writtenField writtenLine writtenPiece written   a number, a line, a piece and a plan as bytes
 --   SoundPiece SoundPlan                            no cause turns it away, and each table is as large as its piece
 --   StoppedPiece DiagonalFirst                      the first cause is a length on the diagonal that is not 0
@@ -54,11 +55,12 @@ pub record StoppedPiece (n : ℕ) (q : Piece) (row : List ℕ) : Type 0 where
   pub size : judgeSize (sizeOf q) ≡ 0
   pub vertices-in : judgeVertices n (q .vertices) ≡ 0
   pub judged : judgeRows 0 (q .rows) ≡ 0
-  -- a row more belongs to it; all have as many lengths as it has vertices, and those of this row are within the limit
-  pub row-more : length (q .rows) < sizeOf q
+  -- it has more rows than these
+  pub rows-left : length (q .rows) < sizeOf q
+  -- each row has as many lengths as there are vertices, and those of the last have room in their fields
   pub wide : Every (λ r. length r ≡ sizeOf q) (row ∷ q .rows)
   pub short : Every (λ l. l ≤ maxLength) row
-  -- but that on the diagonal is not 0
+  -- its length on the diagonal is not 0
   pub diagonal : getD row (length (q .rows)) 0 ≢ 0
 
 -- A text in which such a row is the first cause from front to back.
@@ -71,8 +73,8 @@ pub record DiagonalFirst (text : List ℕ) : Type 0 where
   pub row : List ℕ
   pub behind : List ℕ
   pub lines : text ≡ writtenLine (n ∷ p ∷ []) ++ (flatMap writtenPiece before ++ (writtenPiece piece ++ (writtenLine row ++ behind)))
-  -- no cause turns n, p or a piece in front away; a piece more belongs to the network
+  -- no cause turns n, p or a piece in front away, and the network has more pieces than these
   pub bounds : judgeBounds n p ≡ 0
   pub each : Every (SoundPiece n) before
-  pub piece-more : length before < p
+  pub pieces-left : length before < p
   pub stopped : StoppedPiece n piece row

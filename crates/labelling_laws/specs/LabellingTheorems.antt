@@ -5,7 +5,7 @@
 --   labels-are-distances above-n  demand 2: each place of the label buffer
 --   reached-counts                the vertices reached
 --   few-extractions few-insertions   the counts
---   counts-shown labels-shown     what a listing says of them, in nine columns
+--   counts-held labels-held written-digits   a listing writes them by their digits
 --   every-block-a-trace           each block's model is that of a list of calls
 --   lent-network depot-accepted   a network in lent buffers; the depot example
 -- `Accepted n pieces source` says that no cause turns away the network of n vertices with these pieces, nor the source
@@ -18,7 +18,7 @@ use mathlib.Core.Option.{some}
 use Prim.Native.Nat.{ℕ, suc, _*_, _≤_, _<_}
 use lib.Dec.{eqb}
 use lib.ListN.{getD, length}
-use Rattle.definitions.specs.Limits.{maxLabel, labelPlaces, unreached}
+use Rattle.definitions.specs.Limits.{maxLabel, labelPlaces, columnBytes, unreached}
 use Rattle.definitions.specs.Lists.{count, all, every, mem, different, upFrom, downTo, within, firstCause, Every}
 use Rattle.definitions.specs.Network.{Piece, entry, sizeOf, Distance}
 use Rattle.definitions.specs.Blocks.{splits, splitsOf, windows, windowsOf, rowsOf, columnsOf, blockOf, blocksOf, blocks, passes, weight}
@@ -27,6 +27,7 @@ use Rattle.definitions.specs.Best.{nobody}
 use Rattle.definitions.specs.Model.{intervals}
 use Rattle.definitions.specs.Labelling.{labelOf, chosen, steps, start, labelling, reached, extractions, insertions, labels}
 use Rattle.definitions.specs.Judgement.{judgeBounds, judgeSize, judgeVertices, judgeRow, judgeRows, judgeBlocks, judgeSource, judgePiece, piecesOf}
+use Rattle.definitions.specs.Fields.{maxColumn, decimal, rightJustified, nineColumns}
 use Rattle.definitions.specs.Entries.{judgeLabelling}
 use Rattle.labelling_laws.specs.Acceptance.{Accepted}
 use Rattle.labelling_laws.specs.Ends as ends
@@ -34,7 +35,7 @@ use Rattle.labelling_laws.specs.LoopLaws.{chosen-none}
 use Rattle.labelling_laws.specs.BlockTraces.{Made, made}
 use Rattle.labelling_laws.specs.PieceBlocks as network
 use Rattle.labelling_laws.specs.LentNetworks.{lent-accepted}
-use Rattle.labelling_laws.specs.ListedNumbers.{InColumns, counts-in-columns, labels-in-columns}
+use Rattle.labelling_laws.specs.ListedNumbers as listed
 
 module _ (n : ℕ) (pieces : List Piece) (source : ℕ) (ok : Accepted n pieces source) where
   -- After any number of steps every answer of every block has code 0: no activation was refused, and no extraction found nothing.
@@ -86,12 +87,17 @@ module _ (n : ℕ) (pieces : List Piece) (source : ℕ) (ok : Accepted n pieces 
   pub few-insertions : insertions (labelling (blocks pieces) source) ≤ 5 * weight pieces
   few-insertions = network.insertions-weight n pieces source ok
 
-  -- Nine columns hold the four numbers of a listing's first line, and every label: `-` stands for the unreached and for nothing else.
-  pub counts-shown : Every InColumns (source ∷ reached (labelling (blocks pieces) source) ∷ extractions (labelling (blocks pieces) source) ∷ insertions (labelling (blocks pieces) source) ∷ [])
-  counts-shown = counts-in-columns n pieces source ok
+  -- Nine columns hold the four numbers of a listing's first line, and every label.
+  pub counts-held : Every (λ x. x ≤ maxColumn)
+      (source ∷ reached (labelling (blocks pieces) source) ∷ extractions (labelling (blocks pieces) source) ∷ insertions (labelling (blocks pieces) source) ∷ [])
+  counts-held = listed.counts-held n pieces source ok
 
-  pub labels-shown : (v l : ℕ) → labelOf v ((labelling (blocks pieces) source) .settled) ≡ some l → InColumns l
-  labels-shown = labels-in-columns n pieces source ok
+  pub labels-held : (v l : ℕ) → labelOf v ((labelling (blocks pieces) source) .settled) ≡ some l → l ≤ maxColumn
+  labels-held = listed.labels-held n pieces source ok
+
+-- A number that nine columns hold is written by its digits: in a listing `-` stands for the unreached and for nothing else.
+pub written-digits : (x : ℕ) → x ≤ maxColumn → nineColumns x ≡ rightJustified columnBytes (decimal x)
+written-digits = listed.written-digits
 
 -- Demand 3 reaches the labelling: the model of each block is what some list of calls leaves of a fresh one, after any number of steps.
 pub every-block-a-trace : (pieces : List Piece) (source m : ℕ) → Every Made ((steps m (start (blocks pieces) source)) .blocks)

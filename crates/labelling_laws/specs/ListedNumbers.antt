@@ -1,7 +1,7 @@
--- Nine columns hold every number of a listing but that of an unreached vertex, which is written `-`.
---   InColumns in-columns                  a number that is written by its digits
---   weight-most                           the weight of a network is at most that of sixteen pieces of 24
---   counts-in-columns labels-in-columns   the first line of a listing, and the labels
+-- Nine columns hold the four numbers of a listing's first line, and every label.
+--   written-digits         a number that they hold is written by its digits
+--   weight-most            the weight is at most 24·24 for each piece
+--   counts-held labels-held   the four numbers, and the labels
 use mathlib.Core.Path.{_≡_}
 use mathlib.Core.List.{List, [], _∷_}
 use mathlib.Core.Option.{some}
@@ -22,13 +22,10 @@ use Rattle.basics.specs.ListLaws.{count-le}
 use Rattle.labelling_laws.specs.Acceptance.{Accepted, Suits, suits}
 use Rattle.labelling_laws.specs.PieceBlocks as network
 
--- a number that is written by its digits
-abbrev pub InColumns : ℕ → Type 0
-InColumns x = nineColumns x ≡ rightJustified columnBytes (decimal x)
-
-pub in-columns : (x : ℕ) → x ≤ maxColumn → InColumns x
+-- `-` is for a number that they do not hold
+pub written-digits : (x : ℕ) → x ≤ maxColumn → nineColumns x ≡ rightJustified columnBytes (decimal x)
 unfolding nineColumns
-in-columns x h = rw (le-leb x maxColumn h)
+written-digits x h = rw (le-leb x maxColumn h)
 
 -- ---- the weight
 
@@ -55,16 +52,17 @@ weight-most n (q ∷ qs) s = omega (arith, piece-most n q (s .0), weight-most n 
 -- ---- the numbers of a listing
 
 module _ (n : ℕ) (pieces : List Piece) (source : ℕ) (ok : Accepted n pieces source) where
-  pub counts-in-columns : Every InColumns (source ∷ reached (labelling (blocks pieces) source) ∷ extractions (labelling (blocks pieces) source) ∷ insertions (labelling (blocks pieces) source) ∷ [])
-  counts-in-columns =
+  pub counts-held : Every (λ x. x ≤ maxColumn)
+      (source ∷ reached (labelling (blocks pieces) source) ∷ extractions (labelling (blocks pieces) source) ∷ insertions (labelling (blocks pieces) source) ∷ [])
+  counts-held =
       let few = bounds-in n (length pieces) (ok .bounds) in
-      let light : weight pieces ≤ maxPieces * (maxSize * maxSize) = omega (arith, weight-most n pieces (suits n pieces (ok .pieces-pass)), few .1) in
-      let all : reached (labelling (blocks pieces) source) ≤ labelPlaces = rw (network.reached-count n pieces source ok) (count-le _ labelPlaces) in
-      let first = in-columns source (omega (arith, source-in n source (ok .source-passes) .1, few .0)) in
-      let second = in-columns (reached (labelling (blocks pieces) source)) (omega arith) in
-      let third = in-columns (extractions (labelling (blocks pieces) source)) (omega (arith, network.extractions-weight n pieces source ok)) in
-      let fourth = in-columns (insertions (labelling (blocks pieces) source)) (omega (arith, network.insertions-weight n pieces source ok)) in
+      let weighs : weight pieces ≤ maxPieces * (maxSize * maxSize) = omega (arith, weight-most n pieces (suits n pieces (ok .pieces-pass)), few .1) in
+      let places : reached (labelling (blocks pieces) source) ≤ labelPlaces = rw (network.reached-count n pieces source ok) (count-le _ labelPlaces) in
+      let first : source ≤ maxColumn = omega (arith, source-in n source (ok .source-passes) .1, few .0) in
+      let second : reached (labelling (blocks pieces) source) ≤ maxColumn = omega arith in
+      let third : extractions (labelling (blocks pieces) source) ≤ maxColumn = omega (arith, network.extractions-weight n pieces source ok) in
+      let fourth : insertions (labelling (blocks pieces) source) ≤ maxColumn = omega (arith, network.insertions-weight n pieces source ok) in
       (first, (second, (third, (fourth, tt))))
 
-  pub labels-in-columns : (v l : ℕ) → labelOf v ((labelling (blocks pieces) source) .settled) ≡ some l → InColumns l
-  labels-in-columns v l h = in-columns l (omega (arith, network.labels-limited n pieces source ok v l h))
+  pub labels-held : (v l : ℕ) → labelOf v ((labelling (blocks pieces) source) .settled) ≡ some l → l ≤ maxColumn
+  labels-held v l h = omega (arith, network.labels-limited n pieces source ok v l h)

@@ -1,4 +1,4 @@
-//! Texts and networks that are turned away, each with the number of its cause where that is plain from document 01.
+//! Texts and networks, most of them turned away, each with the number of its cause where that is plain from documents 01 and 02.
 
 use crate::network::{Lent, Plan, LENGTHS, MAX_FIELD, MAX_LENGTH, ROOM};
 use crate::plans::Rng;
@@ -127,8 +127,8 @@ pub fn texts() -> Vec<(String, Vec<u8>, u32)> {
     all
 }
 
-/// The depot's text with a length of six digits at each place of its table: what and where, the text, the number. Two of each block's
-/// four places are on the larger side of its check.
+/// The depot's text with a length of six digits at each place of its table: what and where, the text, the number. In a block of four
+/// two places are on the side of the inequality that must be the smaller: there a long length gives 7.
 pub fn long_lengths() -> Vec<(String, Vec<u8>, u32)> {
     let numbers = [[6, 0, 0, 7], [0, 6, 7, 0], [0, 7, 6, 0], [7, 0, 0, 6]];
     let mut all = Vec::new();

@@ -81,6 +81,7 @@ pub fn rectangle(rows: usize, columns: usize, kind: Kind, rng: &mut Rng) -> Vec<
         }
         Kind::Diagonal => diagonal(rows, columns, rng),
         Kind::Free => {
+            // two terms and a step at each place are no longer than the largest length
             let term = MAX_LENGTH / 10 * 3;
             let step = (MAX_LENGTH - 2 * term) / (rows * columns) as u32;
             steps(rows, columns, term, step, 2, rng)
@@ -146,9 +147,10 @@ pub fn hostile(n: u32, sizes: &[usize], kinds: &[Kind], rng: &mut Rng) -> Plan {
 }
 
 /// The longest street of a town.
-pub const TOWN: u32 = 400;
+pub const TOWN_STREET: u32 = 400;
 
-/// The longest street of any plan: all those on the edge of a piece, `side` along each side, are no longer than the largest length.
+/// The longest street that `city` can take: all those on the edge of a piece, `side` along each side, are no longer than the largest
+/// length.
 pub fn longest_street(side: usize) -> u32 {
     MAX_LENGTH / (4 * side as u32)
 }
@@ -245,12 +247,12 @@ pub fn all(seed: u64) -> Vec<Plan> {
     let rng = &mut rng;
     let mut plans = Vec::new();
     for (down, across, side) in [(1, 1, 1), (1, 3, 2), (2, 2, 3), (3, 2, 5), (4, 4, 4)] {
-        plans.push(city(down, across, side, TOWN, rng));
+        plans.push(city(down, across, side, TOWN_STREET, rng));
         plans.push(city(down, across, side, longest_street(side), rng));
-        let plan = city(down, across, side, TOWN, rng);
+        let plan = city(down, across, side, TOWN_STREET, rng);
         plans.push(thinned(plan, rng));
     }
-    plans.push(city(4, 4, 6, TOWN, rng));
+    plans.push(city(4, 4, 6, TOWN_STREET, rng));
     for kind in KINDS {
         plans.push(hostile(MAX_VERTICES, &[ROOM; SIZES], &[kind], rng));
         plans.push(hostile(24, &[24, 23, 1, 2, 24], &[kind], rng));

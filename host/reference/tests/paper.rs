@@ -1,4 +1,4 @@
-//! The model against the scope document: the depot examples, and the causes that its table names.
+//! The model against documents 01 and 02: the depot examples, and the causes that the table of 01 names.
 
 use reference::damage::{depot_with, long_lengths, text, texts, DEPOT, DEPOT_LISTING};
 use reference::entries::{check_network, label_network};

@@ -9,7 +9,7 @@ use rabdzhine::{
     STACK_WRITE_FIELD, STACK_WRITE_LISTING,
 };
 use reference::network::{Lent, Plan, MAX_CALLS, MAX_SIZE, MAX_VERTICES, ROOM};
-use reference::plans::{all, city, hostile, session, Rng, Session, KINDS, TOWN};
+use reference::plans::{all, city, hostile, session, Rng, Session, KINDS, TOWN_STREET};
 use reference::text::write;
 use region::{End, Region};
 use std::collections::BTreeMap;
@@ -70,7 +70,7 @@ fn largest_sessions(rng: &mut Rng) -> Vec<Session> {
 
 /// The largest plans, a town and one of each kind of table, and smaller ones of all sorts.
 fn plans(rng: &mut Rng) -> Vec<Plan> {
-    let mut plans = vec![city(4, 4, 6, TOWN, rng)];
+    let mut plans = vec![city(4, 4, 6, TOWN_STREET, rng)];
     plans.extend(KINDS.map(|kind| hostile(MAX_VERTICES, &[ROOM; SIZES], &[kind], rng)));
     plans.extend(all(41));
     plans
@@ -96,7 +96,7 @@ fn most_taken() -> BTreeMap<&'static str, (usize, usize)> {
 fn on_largest(mut try_it: impl FnMut(Call)) {
     let mut rng = Rng::new(43);
     let session = &largest_sessions(&mut rng)[0];
-    let plan = city(4, 4, 6, TOWN, &mut rng);
+    let plan = city(4, 4, 6, TOWN_STREET, &mut rng);
     let bytes = write(&plan);
     assert_eq!(bytes.len(), 58_116);
     calls(&plan, &Lent::of(&plan, 0), &bytes, session).into_iter().for_each(&mut try_it);

@@ -1,4 +1,4 @@
--- A text is refused by 6 exactly where its first cause is a length on the diagonal: both halves of `refused-by-6-exactly` in the file Text.
+-- A text is refused by 6 exactly where its first cause is a length on the diagonal that is not 0: both halves of `refused-by-6-exactly` in the file Text.
 --   length-bound row-short         no length field is too long
 --   wrong-diagonal diagonal-judged so a row is refused for its diagonal only
 --   rows-stop rows-stopped         rows up to the one that is refused, and back
@@ -21,13 +21,13 @@ use Rattle.definitions.specs.Blocks.{blocksOf, passes}
 use Rattle.definitions.specs.Judgement.{judgeBounds, judgeSize, judgeVertices, judgeRow, judgeBlocks, judgeSource}
 use Rattle.definitions.specs.Fields.{fieldBytes, FieldAnswer, fieldAt, lengthAt}
 use Rattle.definitions.specs.Reading.{Read, refused, value, _>>=_, require, readField, readFields, judgeLineEnd, readLine, lineBytes, readRows, readPiece, pieceBytes, readPieces, Plan, judgeEnd, readBody, readPlan, judgeLength, readText}
-use Rattle.definitions.specs.Written.{writtenField, writtenLine, writtenPiece, StoppedPiece, DiagonalFirst}
-use Rattle.definitions.specs.Laws.Members.{every-imp}
+use Rattle.definitions.specs.Written.{writtenLine, writtenPiece, StoppedPiece, DiagonalFirst}
+use Rattle.definitions.specs.Laws.Members.{every-test}
 use Rattle.definitions.specs.Laws.Causes.{test-holds, bounds-in, size-in, vertices-in, rows-short, Short}
 use Rattle.definitions.specs.Laws.ReadLaws.{value-same, bind-value, require-value, field-value, line-length}
 use Rattle.definitions.specs.Laws.FieldBound.{maxField, field-bound}
-use Rattle.definitions.specs.Laws.LineProofs.{length-reads, Stands, stands-both, read-field-written, line-written, rows-read, sized-line, pieces-read, two-numbers}
-use Rattle.definitions.specs.Laws.LineBack.{line-back, rows-back, sized-back, pieces-back}
+use Rattle.definitions.specs.Laws.LineProofs.{length-reads, stands-both, line-written, rows-read, sized-written, pieces-read, two-numbers}
+use Rattle.definitions.specs.Laws.LineBack.{lengths-small, vertices-small, line-back, rows-back, sized-back, pieces-back}
 use Rattle.definitions.specs.Laws.NeverRefused.{Never, past, upto, either, value-never, then-never, require-is, cause-never, field-never, line-never}
 
 -- ---- lengths
@@ -55,14 +55,12 @@ row-short text at m row e =
     rw (← value-same (a .0) row (b .2)) (lengths-short text at m (a .0) (a .1))
 
 -- a row whose lengths are in bounds is refused for its diagonal only
-all-short : (row : List ℕ) → Short row → every (λ l. leb l maxLength) row ≡ true
-unfolding every
-all-short [] s = refl
-all-short (l ∷ ls) s = rw (le-leb l maxLength (s .0)) (all-short ls (s .1))
-
 wrong-diagonal : (i : ℕ) (row : List ℕ) → Short row → judgeRow i row ≡ 6 → getD row i 0 ≢ 0
 unfolding judgeRow
-wrong-diagonal i row s j h = let z : _≡_ {A = ℕ} 0 6 = simp (all-short row s, eq-eqb (getD row i 0) 0 h) at j in omega arith
+wrong-diagonal i row s j h =
+    let short : every (λ l. leb l maxLength) row ≡ true = every-test (λ l. leb l maxLength) (λ l. l ≤ maxLength) (λ l. le-leb l maxLength) row s in
+    let z : _≡_ {A = ℕ} 0 6 = simp (short, eq-eqb (getD row i 0) 0 h) at j in
+    omega arith
 
 diagonal-judged : (i : ℕ) (row : List ℕ) → getD row i 0 ≢ 0 → judgeRow i row ≡ 6
 unfolding judgeRow
@@ -149,10 +147,7 @@ module _ (text : List ℕ) (n at m : ℕ) (vertices : List ℕ) (size : readFiel
       let rows = rows-read text (at + lineBytes (suc m)) m 0 (length (r .rows)) (r .rows) (r .read) in
       let x : 0 + length (r .rows) ≡ length (r .rows) = omega arith in
       let short = row-short text (at + lineBytes (suc m) + length (r .rows) * lineBytes m) m (r .row) (r .line) in
-      let z : fieldBytes + lineBytes m ≡ lineBytes (suc m) = omega arith in
-      let first : Stands text at (lineBytes (suc m)) (writtenLine (m ∷ vertices)) =
-      rw (z, sized-line m vertices) at (stands-both text at fieldBytes (lineBytes m) (writtenField m) (writtenLine vertices)
-      (read-field-written fieldAt (λ t i. refl) text at m size) (line-written fieldAt (λ t i. refl) text (at + fieldBytes) m vertices line)) in
+      let first = sized-written text at m vertices size line in
       let front = stands-both text at (lineBytes (suc m)) (length (r .rows) * lineBytes m) (writtenLine (m ∷ vertices)) (flatMap writtenLine (r .rows)) first (rows .stands) in
       let y : at + lineBytes (suc m) + length (r .rows) * lineBytes m ≡ at + (lineBytes (suc m) + length (r .rows) * lineBytes m) = omega arith in
       let last = line-written lengthAt length-reads text (at + (lineBytes (suc m) + length (r .rows) * lineBytes m)) m (r .row) (rw y at (r .line)) in
@@ -166,7 +161,7 @@ module _ (text : List ℕ) (n at m : ℕ) (vertices : List ℕ) (size : readFiel
           vertices-in = vertices-ok;
           judged = rows .judged;
           wide = rw long (line-length lengthAt text (at + lineBytes (suc m) + length (r .rows) * lineBytes m) m (r .row) (r .line), rows .wide);
-          row-more = omega (arith, r .few);
+          rows-left = omega (arith, r .few);
           short = short;
           diagonal = wrong-diagonal (length (r .rows)) (r .row) short (rw x at (r .judged));
         };
@@ -197,12 +192,11 @@ piece-stopped text n at q row behind few s h =
     let m = length (q .vertices) in
     let size = size-in m (s .size) in
     let here : drop at text ≡ writtenLine (m ∷ q .vertices) ++ (flatMap writtenLine (q .rows) ++ (writtenLine row ++ behind)) = h ∙ append-assoc (writtenLine (m ∷ q .vertices)) (flatMap writtenLine (q .rows)) (writtenLine row ++ behind) in
-    let small = every-imp (λ v. (1 ≤ v) × (v ≤ n)) (λ v. v ≤ maxField) (q .vertices) (λ v k. omega arith) (vertices-in n (q .vertices) (s .vertices-in)) in
-    let line = sized-back text at m (q .vertices) (flatMap writtenLine (q .rows) ++ (writtenLine row ++ behind)) (omega (arith, size .1)) small refl here in
+    let line = sized-back text at m (q .vertices) (flatMap writtenLine (q .rows) ++ (writtenLine row ++ behind)) (omega (arith, size .1)) (vertices-small n (q .vertices) few (s .vertices-in)) refl here in
     let rows = rows-back text (at + lineBytes (suc m)) m 0 (q .rows) (writtenLine row ++ behind) (s .wide .1) (rows-short 0 (q .rows) (s .judged)) (s .judged) (line .2) in
-    let next = line-back lengthAt length-reads text (at + lineBytes (suc m) + length (q .rows) * lineBytes m) row behind m (s .wide .0) (every-imp (λ l. l ≤ maxLength) (λ l. l ≤ maxField) row (λ l k. omega arith) (s .short)) (rows .1) in
+    let next = line-back lengthAt length-reads text (at + lineBytes (suc m) + length (q .rows) * lineBytes m) row behind m (s .wide .0) (lengths-small row (s .short)) (rows .1) in
     let x : 0 + length (q .rows) ≡ length (q .rows) = omega arith in
-    let stop = rows-stopped (q .rows) text (at + lineBytes (suc m)) m 0 m row (s .row-more) (rows .0) (next .0) (rw x (diagonal-judged (length (q .rows)) row (s .diagonal))) in
+    let stop = rows-stopped (q .rows) text (at + lineBytes (suc m)) m 0 m row (s .rows-left) (rows .0) (next .0) (rw x (diagonal-judged (length (q .rows)) row (s .diagonal))) in
     rw (line .0, s .size, line .1, s .vertices-in, stop)
 
 -- ---- pieces
@@ -297,7 +291,7 @@ plan-stop text e =
           two (line-written fieldAt (λ t i. refl) text 0 2 first (a .1)) (read .stands) (stop .stands);
       bounds = body .0;
       each = read .each;
-      piece-more = pieces .few;
+      pieces-left = pieces .few;
       stopped = stop .stopped;
     }
 
@@ -311,7 +305,7 @@ plan-stopped text d =
     let line = line-back fieldAt (λ _ _. refl) text 0 (n ∷ p ∷ []) (flatMap writtenPiece (d .before) ++ stop) 2 refl (omega (arith, few .0), (omega (arith, few .1), tt)) (d .lines) in
     let pieces = pieces-back text n (lineBytes 2) (d .before) stop (omega (arith, few .0)) (d .each) (line .1) in
     let piece = piece-stopped text n (lineBytes 2 + total (map pieceBytes (d .before))) (d .piece) (d .row) (d .behind) (omega (arith, few .0)) (d .stopped) (pieces .1) in
-    rw (line .0, d .bounds, pieces-stopped (d .before) text n (lineBytes 2) p (d .piece-more) (pieces .0) piece)
+    rw (line .0, d .bounds, pieces-stopped (d .before) text n (lineBytes 2) p (d .pieces-left) (pieces .0) piece)
 
 pub diagonal-is : (text : List ℕ) → readText text ≡ refused 6 → (length text ≤ maxText) × DiagonalFirst text
 unfolding readText judgeLength

@@ -21,7 +21,7 @@ abbrev pub maxField : ℕ
 maxField = 10 ^ fieldBytes - 1
 
 power-bound : (i : ℕ) → i ≤ fieldBytes → 10 ^ i ≤ suc maxField
-power-bound i h = pow-le-pow-right (omega arith) h
+power-bound i h = let few : 10 ^ i ≤ 10 ^ fieldBytes = pow-le-pow-right (omega arith) h in omega arith
 
 -- one digit more
 pub digit-bound : (i x b : ℕ) → x < 10 ^ i → b ≤ 57 → 10 * x + (b - 48) < 10 ^ suc i

@@ -1,5 +1,5 @@
 -- From a plan that no cause turns away to its text, which is read back: part of `accepted-exactly` in the file Text.
---   Small                           numbers that have room in their fields
+--   Small lengths-small vertices-small   numbers that have room in their fields
 --   behind                          the text behind bytes that stand at a place
 --   fields-back line-back           fields and a line that stand at a place are read there
 --   rows-back piece-back pieces-back body-back   so are rows, pieces and all that follows the first line
@@ -25,8 +25,14 @@ use Rattle.definitions.specs.Laws.FieldBound.{maxField}
 use Rattle.definitions.specs.Laws.FieldBack.{length-written, field-back}
 
 -- numbers that have room in their fields
-abbrev pub Small : List ℕ → Type 0
+abbrev Small : List ℕ → Type 0
 Small xs = Every (λ x. x ≤ maxField) xs
+
+pub lengths-small : (row : List ℕ) → Short row → Small row
+lengths-small row s = every-imp (λ l. l ≤ maxLength) (λ l. l ≤ maxField) row (λ l k. omega arith) s
+
+pub vertices-small : (n : ℕ) (vertices : List ℕ) → n ≤ maxField → judgeVertices n vertices ≡ 0 → Small vertices
+vertices-small n vertices few j = every-imp (λ v. (1 ≤ v) × (v ≤ n)) (λ v. v ≤ maxField) vertices (λ v k. omega arith) (vertices-in n vertices j)
 
 -- the text behind bytes that stand at a place
 behind : (text : List ℕ) (at k : ℕ) (bytes rest : List ℕ) → length bytes ≡ k → drop at text ≡ bytes ++ rest → drop (at + k) text ≡ rest
@@ -81,7 +87,7 @@ rows-back text at m i [] rest w s j h = let z : at + 0 * lineBytes m ≡ at = om
 rows-back text at m i (row ∷ rows) rest w s j h =
     let causes = no-cause (judgeRow i row ∷ judgeRows (suc i) rows ∷ []) j in
     let here : drop at text ≡ writtenLine row ++ (flatMap writtenLine rows ++ rest) = h ∙ append-assoc (writtenLine row) (flatMap writtenLine rows) rest in
-    let line = line-back lengthAt length-reads text at row (flatMap writtenLine rows ++ rest) m (w .0) (every-imp (λ l. l ≤ maxLength) (λ l. l ≤ maxField) row (λ l k. omega arith) (s .0)) here in
+    let line = line-back lengthAt length-reads text at row (flatMap writtenLine rows ++ rest) m (w .0) (lengths-small row (s .0)) here in
     let more = rows-back text (at + lineBytes m) m (suc i) rows rest (w .1) (s .1) (causes .1 .0) (line .1) in
     let z : at + suc (length rows) * lineBytes m ≡ at + lineBytes m + length rows * lineBytes m = omega arith in
     (rw (line .0, causes .0, more .0), rw z (more .1))
@@ -107,7 +113,7 @@ piece-back text n at q rest few s h =
     let causes = no-cause (judgeSize m ∷ judgeVertices n (q .vertices) ∷ judgeRows 0 (q .rows) ∷ judgeBlocks q ∷ []) (s .judgement) in
     let size = size-in m (causes .0) in
     let here : drop at text ≡ writtenLine (m ∷ q .vertices) ++ (flatMap writtenLine (q .rows) ++ rest) = h ∙ append-assoc (writtenLine (m ∷ q .vertices)) (flatMap writtenLine (q .rows)) rest in
-    let line = sized-back text at m (q .vertices) (flatMap writtenLine (q .rows) ++ rest) (omega (arith, size .1)) (every-imp (λ v. (1 ≤ v) × (v ≤ n)) (λ v. v ≤ maxField) (q .vertices) (λ v k. omega arith) (vertices-in n (q .vertices) (causes .1 .0))) refl here in
+    let line = sized-back text at m (q .vertices) (flatMap writtenLine (q .rows) ++ rest) (omega (arith, size .1)) (vertices-small n (q .vertices) few (causes .1 .0)) refl here in
     let table = rows-back text (at + lineBytes (suc m)) m 0 (q .rows) rest (s .wide) (rows-short 0 (q .rows) (causes .1 .1 .0)) (causes .1 .1 .0) (line .2) in
     let rows : readRows text (at + lineBytes (suc m)) m 0 m ≡ value (q .rows) = rw (s .tall) at (table .0) in
     let end : drop (at + lineBytes (suc m) + m * lineBytes m) text ≡ rest = rw (s .tall) at (table .1) in

@@ -63,7 +63,7 @@ pub length-reads : Reads lengthAt
 unfolding lengthAt
 length-reads text at = refl
 
-pub read-field-written : (field : FieldReading) → Reads field → (text : List ℕ) (at x : ℕ) → readField field text at ≡ value x → Stands text at fieldBytes (writtenField x)
+read-field-written : (field : FieldReading) → Reads field → (text : List ℕ) (at x : ℕ) → readField field text at ≡ value x → Stands text at fieldBytes (writtenField x)
 read-field-written field same text at x e = field-at text at x (sym (same text at) ∙ field-value field text at x e)
 
 fields-written : (field : FieldReading) → Reads field → (text : List ℕ) (at k : ℕ) (xs : List ℕ) → readFields field text at k ≡ value xs → Stands text at (fieldBytes * k) (flatMap writtenField xs)
@@ -146,20 +146,26 @@ record PieceRead (text : List ℕ) (n at : ℕ) (q : Piece) : Type 0 where
   sound : SoundPiece n q
 
 -- the size is the first field of the line of the vertices
-pub sized-line : (m : ℕ) (xs : List ℕ) → writtenField m ++ writtenLine xs ≡ writtenLine (m ∷ xs)
+sized-line : (m : ℕ) (xs : List ℕ) → writtenField m ++ writtenLine xs ≡ writtenLine (m ∷ xs)
 unfolding writtenLine flatMap
 sized-line m xs = sym (append-assoc (writtenField m) (flatMap writtenField xs) (lineEnd ∷ []))
+
+pub sized-written : (text : List ℕ) (at m : ℕ) (vertices : List ℕ) → readField fieldAt text at ≡ value m → readLine fieldAt text (at + fieldBytes) m ≡ value vertices
+    → Stands text at (lineBytes (suc m)) (writtenLine (m ∷ vertices))
+sized-written text at m vertices size line =
+    let z : fieldBytes + lineBytes m ≡ lineBytes (suc m) = omega arith in
+    let first = read-field-written fieldAt (λ t i. refl) text at m size in
+    let rest = line-written fieldAt (λ t i. refl) text (at + fieldBytes) m vertices line in
+    rw (z, sized-line m vertices) at (stands-both text at fieldBytes (lineBytes m) (writtenField m) (writtenLine vertices) first rest)
 
 module _ (text : List ℕ) (n at m : ℕ) (vertices : List ℕ) (rows : List (List ℕ)) where
   abbrev made : Piece
   made = record { vertices = vertices; rows = rows }
 
-  piece-made : length vertices ≡ m → Stands text at fieldBytes (writtenField m) → Stands text (at + fieldBytes) (lineBytes m) (writtenLine vertices)
+  piece-made : length vertices ≡ m → Stands text at (lineBytes (suc m)) (writtenLine (m ∷ vertices))
       → judgeSize m ≡ 0 → judgeVertices n vertices ≡ 0 → RowsRead text (at + lineBytes (suc m)) m 0 m rows → judgeBlocks made ≡ 0 → PieceRead text n at made
   unfolding judgePiece firstCause sizeOf pieceBytes writtenPiece
-  piece-made long size line size-in vertices-in r blocks =
-      let z : fieldBytes + lineBytes m ≡ lineBytes (suc m) = omega arith in
-      let first : Stands text at (lineBytes (suc m)) (writtenLine (m ∷ vertices)) = rw (z, sized-line m vertices) at (stands-both text at fieldBytes (lineBytes m) (writtenField m) (writtenLine vertices) size line) in
+  piece-made long first size-in vertices-in r blocks =
       record {
         stands = rw long (stands-both text at (lineBytes (suc m)) (m * lineBytes m) (writtenLine (m ∷ vertices)) (flatMap writtenLine rows) first (r .stands));
         sound = record { tall = r .count ∙ sym long; wide = rw long (r .wide); judgement = rw (long, size-in, vertices-in, r .judged, blocks) };
@@ -180,8 +186,7 @@ piece-read text n at q e =
     subst (PieceRead text n at) (value-same (record { vertices = vertices; rows = rows }) q (g .2))
     (piece-made text n at m vertices rows
     (line-length fieldAt text (at + fieldBytes) m vertices (c .1))
-    (read-field-written fieldAt (λ t i. refl) text at m (a .1))
-    (line-written fieldAt (λ t i. refl) text (at + fieldBytes) m vertices (c .1))
+    (sized-written text at m vertices (a .1) (c .1))
     (require-value (judgeSize m) (b .0) (b .1))
     (require-value (judgeVertices n vertices) (d .0) (d .1))
     (rows-read text (at + lineBytes (suc m)) m 0 m rows (f .1))

@@ -1,7 +1,7 @@
 -- A property of all numbers below a bound, and of all members of a list.
---   all-at all-is  of numbers, from a computed test and back
---   every-is       of members, from a computed test
---   every-imp      of members, from another property
+--   all-at all-is         of numbers, from a computed test and back
+--   every-is every-test   of members, from a computed test and back
+--   every-imp             of members, from another property
 use mathlib.Core.Path.{_≡_, refl}
 use mathlib.Core.Bool.{Bool, true}
 use mathlib.Core.List.{List, [], _∷_}
@@ -30,6 +30,11 @@ pub every-is : {A : Type 0} (p : A → Bool) (P : A → Type 0) → ((x : A) →
 unfolding every
 every-is p P f [] h = tt
 every-is p P f (x ∷ xs) h = (f x (and-left (p x) (every p xs) h), every-is p P f xs (and-right (p x) (every p xs) h))
+
+pub every-test : {A : Type 0} (p : A → Bool) (P : A → Type 0) → ((x : A) → P x → p x ≡ true) → (xs : List A) → Every P xs → every p xs ≡ true
+unfolding every
+every-test p P f [] h = refl
+every-test p P f (x ∷ xs) h = and-both (p x) (every p xs) (f x (h .0)) (every-test p P f xs (h .1))
 
 pub every-imp : {A : Type 0} (P Q : A → Type 0) (xs : List A) → ((x : A) → P x → Q x) → Every P xs → Every Q xs
 every-imp P Q [] f h = tt

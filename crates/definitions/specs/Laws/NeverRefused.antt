@@ -1,7 +1,8 @@
 -- Which parts of a text are never refused by a number, and what that says where the whole is.
---   Never past upto either         where the whole is refused by a number and one part never is, the other is
---   value-never then-never cause-never   what is never refused by a number
---   field-never line-never         a field and a line are refused by 3 only
+--   Never past upto either               of two parts the one is refused, where the other never is; either is
+--   value-never then-never               what is never refused by a number
+--   require-is cause-never               a cause is refused by its own number and no other
+--   field-never line-never               a field and a line are refused by no number above 3
 use mathlib.Core.Path.{_≡_, refl, sym, ap, _∙_}
 use mathlib.Core.Bool.{Bool, true, false, cond}
 use mathlib.Core.List.{List, [], _∷_}
