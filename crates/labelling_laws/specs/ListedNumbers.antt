@@ -25,7 +25,7 @@ use Rattle.labelling_laws.specs.PieceBlocks as network
 -- `-` is for a number that they do not hold
 pub written-digits : (x : ℕ) → x ≤ maxColumn → nineColumns x ≡ rightJustified columnBytes (decimal x)
 unfolding nineColumns
-written-digits x h = rw (le-leb x maxColumn h)
+written-digits x h = rw (le-leb x maxColumn (omega (arith, h)))
 
 -- ---- the weight
 
