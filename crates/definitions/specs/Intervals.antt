@@ -2,13 +2,16 @@
 --   Interval adjoins joined prepend    an interval, and one put before others
 --   prependColumn runs                 the longest runs
 --   LongestRun                         one of them in plain terms
---   Rising Distinct                    their order; each stands once
---   isKept countNew                    how many of one list are not in another
+--   Rising                             each begins after the one before it ends
+--   isKept Distinct SameIntervals      an interval among others; each stands once; the same in two lists
+--   byFirstColumn FirstsRise           by rising first column, document 02, request 2
+--   countNew                           how many of one list are not in another
 use mathlib.Core.Path.{_≡_}
 use mathlib.Core.Bool.{Bool, false, cond, _&&_, _||_}
 use mathlib.Core.List.{List, [], _∷_}
 use Prim.Native.Nat.{ℕ, zero, suc, pred, _≤_, _<_}
-use lib.Dec.{eqb}
+use lib.Dec.{eqb, leb}
+use Rattle.definitions.specs.Lists.{Every}
 use Rattle.definitions.specs.Best.{Best, nobody, by}
 
 -- its parent, its first and its last column
@@ -68,6 +71,37 @@ isKept v (u ∷ us) = sameInterval v u || isKept v us
 abbrev pub Distinct : List Interval → Type 0
 Distinct [] = Unit {0}
 Distinct (v ∷ vs) = (isKept v vs ≡ false) × Distinct vs
+
+-- the same intervals are among both
+abbrev pub SameIntervals : List Interval → List Interval → Type 0
+SameIntervals us vs = (v : Interval) → isKept v us ≡ isKept v vs
+
+-- the column at which an interval begins
+abbrev pub firstColumn : Interval → ℕ
+firstColumn (interval p f l) = f
+
+-- the first begins no later than the second
+unfoldable pub noLater : Interval → Interval → Bool
+noLater v u = leb (firstColumn v) (firstColumn u)
+
+-- an interval put before the first one that it begins no later than
+unfoldable pub putInOrder : Interval → List Interval → List Interval
+putInOrder v [] = v ∷ []
+putInOrder v (u ∷ us) = cond (noLater v u) (v ∷ u ∷ us) (u ∷ putInOrder v us)
+
+-- The same intervals by rising first column: the order in which document 02, request 2, has a session list those that are kept.
+unfoldable pub byFirstColumn : List Interval → List Interval
+byFirstColumn [] = []
+byFirstColumn (v ∷ vs) = putInOrder v (byFirstColumn vs)
+
+-- an interval begins behind column c
+abbrev pub Behind : ℕ → Interval → Type 0
+Behind c u = c < firstColumn u
+
+-- In plain terms: all that stand after an interval begin behind its first column.
+abbrev pub FirstsRise : List Interval → Type 0
+FirstsRise [] = Unit {0}
+FirstsRise (v ∷ vs) = Every (Behind (firstColumn v)) vs × FirstsRise vs
 
 -- How many of the first list are not in the second. Of the intervals after and before a call these are inserted, 01's brought in; of those
 -- before and after it they are removed, 01's dropped.

@@ -2,6 +2,7 @@
 --   MongeLaws                                 of `passes` in the file Blocks
 --   LeastLaws                                 of `leastLeft` in the file Model
 --   RunProofs RunLaws                         of `intervals` in the file Model
+--   OrderLaws                                 of their order, in the file Model too
 --   FieldProofs LineProofs FieldBack LineBack of `readText` in the file Text: from a text to its plan, and back; for one field, for all lines
 --   TextLaws                                  the same, of the whole text
 --   NeverRefused Diagonal                     what a text is refused for: of `refused-by-6-exactly` in the file Text
@@ -13,6 +14,7 @@ pub mod MongeLaws
 pub mod LeastLaws
 pub mod RunProofs
 pub mod RunLaws
+pub mod OrderLaws
 pub mod ReadLaws
 pub mod FieldProofs
 pub mod FieldBound

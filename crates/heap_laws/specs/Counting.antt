@@ -2,21 +2,18 @@
 --   isKept-append                          an interval of two lists
 --   countNew-append                        of two lists
 --   countNew-tail countNew-same            none of a part, none of the same
---   isKept-elsewhere rising-elsewhere      an interval is not in a list that has none that begins where it does
 --   runs-distinct                          runs stand each once
 --   balance                                inserted and kept before = removed and kept after
 use mathlib.Core.Path.{_≡_, refl, sym, ap}
-use mathlib.Core.Bool.{true, false, cond, _||_, or-true, or-assoc, and-false}
+use mathlib.Core.Bool.{true, false, cond, _||_, or-true, or-assoc}
 use mathlib.Core.List.{List, [], _∷_, _++_, append-assoc}
-use mathlib.Core.Logic.{_≢_}
-use Prim.Native.Nat.{ℕ, suc, _+_, _<_}
+use Prim.Native.Nat.{ℕ, suc, _+_}
 use native.Mathlib.Nat.{zero-add}
 use native.Mathlib.Omega.{arith}
-use borrow.Author.Tests.{ne-eqb}
 use lib.ListN.{length}
-use Rattle.definitions.specs.Lists.{Every}
 use Rattle.definitions.specs.Best.{Best}
-use Rattle.definitions.specs.Intervals.{Interval, interval, runs, sameInterval, isKept, Distinct, countNew, Rising}
+use Rattle.definitions.specs.Intervals.{Interval, runs, sameInterval, isKept, Distinct, countNew}
+use Rattle.definitions.specs.Laws.OrderLaws.{rising-firsts, firsts-distinct}
 use Rattle.definitions.specs.Laws.RunProofs.{sameInterval-refl, sameInterval-is, runs-rising}
 use Rattle.logic.specs.Tests.{clash, Truth, holds, fails, truth}
 
@@ -53,25 +50,8 @@ countNew-same xs = countNew-tail [] xs
 
 -- ---- each once
 
--- an interval that begins at another column
-abbrev pub Elsewhere : ℕ → Interval → Type 0
-Elsewhere c (interval p f l) = c ≢ f
-
-pub isKept-elsewhere : (p f l : ℕ) (vs : List Interval) → Every (Elsewhere f) vs → isKept (interval p f l) vs ≡ false
-unfolding isKept sameInterval
-isKept-elsewhere p f l [] h = refl
-isKept-elsewhere p f l (interval p′ f′ l′ ∷ vs) h = simp (ne-eqb f f′ (h .0), and-false, isKept-elsewhere p f l vs (h .1))
-
-pub rising-elsewhere : (c lo : ℕ) (vs : List Interval) → c < lo → Rising lo vs → Every (Elsewhere c) vs
-rising-elsewhere c lo [] h r = tt
-rising-elsewhere c lo (interval p f l ∷ vs) h r = (omega arith, rising-elsewhere c (suc l) vs (omega arith) (r .2))
-
-rising-distinct : (lo : ℕ) (vs : List Interval) → Rising lo vs → Distinct vs
-rising-distinct lo [] r = tt
-rising-distinct lo (interval p f l ∷ vs) r = (isKept-elsewhere p f l vs (rising-elsewhere f (suc l) vs (omega arith) (r .2)), rising-distinct (suc l) vs (r .2))
-
 pub runs-distinct : (w : ℕ → Best) (c n : ℕ) → Distinct (runs w c n)
-runs-distinct w c n = rising-distinct c (runs w c n) (runs-rising w c n)
+runs-distinct w c n = firsts-distinct (runs w c n) (rising-firsts c (runs w c n) (runs-rising w c n))
 
 -- ---- the balance of two lists
 
