@@ -140,7 +140,7 @@ rabdzhine_label_answer rabdzhine_label_network(uint32_t n, uint32_t p,
  * Runs 0 to 64 calls on the heap of one block of 1 to 24 rows and columns, from a fresh heap. Row i of the rectangle starts at place 24 * i.
  * A call is kind (1 tell, 2 take), row, value; its answer is code (0, 50 or 9 to 11), column, sum.
  * Returns 0 with intervals brought in and dropped; answers then holds an answer for each call, unused places 0, and intervals the kept
- * intervals by rising first column, unused places 255. A refusal, 1, 4, 6 or 7, leaves both.
+ * intervals by rising first column, each as owner, first column, last column, unused places 255. A refusal, 1, 4, 6 or 7, leaves both.
  */
 rabdzhine_session_answer rabdzhine_run_session(uint32_t rows, uint32_t cols, uint32_t count,
                                                const uint32_t *lengths, size_t lengths_len,

@@ -186,7 +186,7 @@ pub fn label_network(
     }
 }
 
-/// Runs calls on the heap of one block. A refusal leaves `answers` and `intervals`.
+/// Runs calls on the heap of one block. The kept intervals stand in `intervals` by rising first column. A refusal leaves `answers` and `intervals`.
 pub fn run_session(
     rows: u32,
     cols: u32,

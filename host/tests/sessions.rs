@@ -29,6 +29,9 @@ fn compare(s: &Session, places: [usize; 2]) -> (u32, Vec<u32>, Vec<u32>) {
 
 const PLACES: [usize; 2] = [ANSWERS, INTERVALS];
 
+/// What a place that no interval uses holds.
+const UNUSED: u32 = 255;
+
 /// A session on the depot's first block, [5 7; 6 4].
 fn depot(calls: &[[u32; 3]]) -> Session {
     let mut lengths = vec![0; RECTANGLE];
@@ -47,6 +50,8 @@ fn the_depot_examples() {
     let (_, answers, intervals) = compare(&depot(&[[1, 0, 0], [1, 1, 3]]), PLACES);
     assert_eq!(answers[..6], [0; 6]);
     assert_eq!(intervals[..4], [0, 0, 1, 255]);
+    let (_, _, intervals) = compare(&depot(&[[1, 0, 0], [1, 1, 2]]), PLACES);
+    assert_eq!(intervals[..7], [0, 0, 0, 1, 1, 1, 255]);
     let (_, answers, _) = compare(&depot(&[[1, 0, 0], [2, 0, 0], [1, 1, 4], [1, 1, 5]]), PLACES);
     assert_eq!(answers[..12], [0, 0, 0, 0, 0, 5, 11, 0, 0, 0, 0, 0]);
 }
@@ -79,6 +84,23 @@ fn sound_sessions() {
     }
     assert_eq!(met, BTreeSet::from([0, 9, 10, 11, 50]));
     assert!(largest > MAX_LABEL); // a take may go above what a tell may say
+}
+
+/// Document 02, request 2, with no model: each interval in the buffer begins behind the one before it.
+#[test]
+fn kept_intervals_stand_by_rising_first_column() {
+    let mut rng = Rng::new(33);
+    let mut most = 0;
+    for _ in 0..400 {
+        for kind in KINDS {
+            let (_, _, intervals) = compare(&session(kind, 7, &mut rng), PLACES);
+            let firsts: Vec<u32> =
+                intervals.chunks(3).map(|v| v[1]).take_while(|&first| first != UNUSED).collect();
+            assert!(firsts.windows(2).all(|pair| pair[0] < pair[1]), "{firsts:?}");
+            most = most.max(firsts.len());
+        }
+    }
+    assert!(most > 5); // there was an order to be seen
 }
 
 #[test]

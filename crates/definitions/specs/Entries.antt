@@ -1,5 +1,5 @@
 -- What each entry returns and leaves in each lent buffer, for every input. The causes are those of document 01, "Causes that turn an input away".
---   session          a session on one block
+--   session          a session on one block, with the law that the order of its intervals fixes their buffer
 --   labelNetwork     the labelling of a lent network
 --   judgeLent        the judgement of a lent network
 --   reading          the text reader
@@ -7,6 +7,7 @@
 --   writeField       the nine-column field writer
 --   listing          what the program `labels` writes
 --   writeListing     the same in a lent buffer
+use mathlib.Core.Path.{_≡_, ap}
 use mathlib.Core.Bool.{Bool, cond, _&&_}
 use mathlib.Core.List.{List, [], _∷_, _++_, map, flatMap}
 use Prim.Native.Nat.{ℕ, _+_, _*_}
@@ -20,8 +21,8 @@ use Rattle.definitions.specs.Lists.{all, upFrom, padded, within, firstCa
 use Rattle.definitions.specs.Network.{Rectangle}
 use Rattle.definitions.specs.Monge.{isMonge}
 use Rattle.definitions.specs.Blocks.{blocks}
-use Rattle.definitions.specs.Intervals.{Interval, interval}
-use Rattle.definitions.specs.Model.{intervals, Call, Answer, trace}
+use Rattle.definitions.specs.Intervals.{Interval, interval, SameIntervals, byFirstColumn, FirstsRise}
+use Rattle.definitions.specs.Model.{Model, intervals, by-first-column-exactly, Call, Answer, trace}
 use Rattle.definitions.specs.Labelling.{State, labelOf, labelling, reached, extractions, insertions, heldLabel, labels}
 use Rattle.definitions.specs.Judgement.{judgeSource, piecesOf, judgeNetwork}
 use Rattle.definitions.specs.Fields.{blank, lineEnd, fieldAt, decimal, nineColumns}
@@ -85,19 +86,16 @@ answersIn answers count = map (answerAt answers) (upFrom 0 count)
 abbrev pub intervalNumbers : Interval → List ℕ
 intervalNumbers (interval p f l) = p ∷ f ∷ l ∷ []
 
--- 01 leaves the order of the kept intervals to the program: it is that of `intervals`, by rising column
-abbrev pub keptOrder : List Interval → List Interval
-keptOrder kept = kept
-
--- the interval buffer
+-- the interval buffer, in the order of the list; unused places are 255
 unfoldable pub intervalsOf : List Interval → List ℕ
-intervalsOf kept = padded intervalPlaces unusedInterval (flatMap intervalNumbers (keptOrder kept))
+intervalsOf listed = padded intervalPlaces unusedInterval (flatMap intervalNumbers listed)
 
 -- a refusal returns its number and counts of 0
 abbrev pub sessionRefusal : ℕ → SessionAnswer
 sessionRefusal k = record { number = k; inserted = 0; removed = 0 }
 
--- the calls on a fresh model; a refusal leaves both buffers
+-- The calls on a fresh model. The kept intervals are the model's, and they stand by rising first column, as document 02, request 2, has it. A refusal
+-- leaves both buffers.
 unfoldable pub session : ℕ → ℕ → ℕ → List ℕ → List ℕ → List ℕ → List ℕ → AfterSession
 session rows cols count lengths calls answers kept =
     let cause = judgeSession rows cols count lengths calls answers kept in
@@ -106,9 +104,14 @@ session rows cols count lengths calls answers kept =
     let done : AfterSession = record {
       answer = record { number = 0; inserted = t .inserted; removed = t .removed };
       answers = answersOf (t .answers);
-      intervals = intervalsOf (intervals e cols (t .model));
+      intervals = intervalsOf (byFirstColumn (intervals e cols (t .model)));
     } in
     cond (eqb cause 0) done (record { answer = sessionRefusal cause; answers = answers; intervals = kept })
+
+-- The order fixes the interval buffer: any list of the model's intervals that rises by first column gives the one that a session leaves.
+pub buffer-fixed : (e : Rectangle) (cols : ℕ) (m : Model) (listed : List Interval) → SameIntervals listed (intervals e cols m) → FirstsRise listed
+    → intervalsOf listed ≡ intervalsOf (byFirstColumn (intervals e cols m))
+buffer-fixed e cols m listed same rise = ap intervalsOf (by-first-column-exactly e cols m listed .1 (same, rise))
 
 -- ---- the labelling
 

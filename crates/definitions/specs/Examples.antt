@@ -1,5 +1,5 @@
--- Document 01, "Depot examples": P1 to P12, rows of one table closed by one statement, by computation from the definitions. The second half of P12 is
--- that of document 02, request 1.
+-- Document 01, "Depot examples": P1 to P12, rows of one table closed by one statement, by computation from the definitions. P9 lists its two
+-- intervals in the order of document 02, request 2; the second half of P12 is that of request 1.
 use mathlib.Core.Path.{_≡_, refl}
 use mathlib.Core.List.{List, [], _∷_, _++_, map, flatMap}
 use Prim.Native.Nat.{ℕ, pred}
@@ -12,7 +12,7 @@ use Rattle.definitions.specs.Network.{entry, sizeOf}
 use Rattle.definitions.specs.Blocks.{splits, splitsOf, windows, windowsOf, rowsOf, columnsOf, Block, blockOf, blocksOf, blocks, noBlock, passes}
 use Rattle.definitions.specs.Monge.{corners, isMonge}
 use Rattle.definitions.specs.Best.{lesser, least, placed, leastFrom}
-use Rattle.definitions.specs.Intervals.{adjoins, joined, prepend, prependColumn, runs, sameInterval, isKept, countNew}
+use Rattle.definitions.specs.Intervals.{adjoins, joined, prepend, prependColumn, runs, sameInterval, isKept, noLater, putInOrder, byFirstColumn, countNew}
 use Rattle.definitions.specs.Model.{through, parent, available, intervals, isActivated, judge, activate, extract, step, extend, traceFrom, trace}
 use Rattle.definitions.specs.Labelling.{freshBlock, apply, leastOf, placeOf, activateAt, activateVertex, labelOf, settleAs, settle, chosen, placeIn, extractFrom, advance, steps, start, columns, labelling, reached, extractions, insertions, heldLabel, labels}
 use Rattle.definitions.specs.Judgement.{judgeBounds, judgeSize, judgeVertices, judgeRow, judgeRows, judgeBlocks, judgeSource, judgePiece, pieceAt, piecesOf, judgeFrom, judgeNetwork}
@@ -180,5 +180,5 @@ table =
 
 -- every row shows what document 01 says, P12 with request 1 of document 02
 pub examples : map (λ r. run (r .example)) table ≡ map (λ r. r .shown) table
-unfolding bytes depotWith depot longLength longDiagonal depotFills countsOf readInto filled labelLent listed entriesOf blockIn runSession left run row activation extraction done onBlock table flatMap all every mem different total upFrom downTo padded within firstCause splits splitsOf windows windowsOf rowsOf columnsOf corners isMonge lesser least through parent available placed leastFrom adjoins joined prepend prependColumn runs intervals sameInterval isKept countNew isActivated judge activate extract step extend traceFrom trace entry sizeOf blockOf blocksOf blocks passes freshBlock apply leastOf placeOf activateAt activateVertex labelOf settleAs settle chosen placeIn extractFrom advance steps start columns labelling reached extractions insertions heldLabel labels judgeBounds judgeSize judgeVertices judgeRow judgeRows judgeBlocks judgeSource judgePiece pieceAt piecesOf judgeFrom judgeNetwork isDigit skipBlanks isNumeral numeralValue fieldOf fieldAt lengthAt readField readFields judgeLineEnd readLine readRows readPiece pieceBytes readPieces judgeEnd readBody readPlan judgeLength readText sizesOf verticesOf tableOf lengthsOf hasPlaces judgeBuffers afterRead reading judgeLabelling labelAnswer labelNetwork rectangleOf judgeSession callAt callsOf answersOf intervalsOf session digitsOf decimal rightJustified nineColumns listingLine refusalLine stateListing planListing listing
+unfolding bytes depotWith depot longLength longDiagonal depotFills countsOf readInto filled labelLent listed entriesOf blockIn runSession left run row activation extraction done onBlock table flatMap all every mem different total upFrom downTo padded within firstCause splits splitsOf windows windowsOf rowsOf columnsOf corners isMonge lesser least through parent available placed leastFrom adjoins joined prepend prependColumn runs intervals sameInterval isKept noLater putInOrder byFirstColumn countNew isActivated judge activate extract step extend traceFrom trace entry sizeOf blockOf blocksOf blocks passes freshBlock apply leastOf placeOf activateAt activateVertex labelOf settleAs settle chosen placeIn extractFrom advance steps start columns labelling reached extractions insertions heldLabel labels judgeBounds judgeSize judgeVertices judgeRow judgeRows judgeBlocks judgeSource judgePiece pieceAt piecesOf judgeFrom judgeNetwork isDigit skipBlanks isNumeral numeralValue fieldOf fieldAt lengthAt readField readFields judgeLineEnd readLine readRows readPiece pieceBytes readPieces judgeEnd readBody readPlan judgeLength readText sizesOf verticesOf tableOf lengthsOf hasPlaces judgeBuffers afterRead reading judgeLabelling labelAnswer labelNetwork rectangleOf judgeSession callAt callsOf answersOf intervalsOf session digitsOf decimal rightJustified nineColumns listingLine refusalLine stateListing planListing listing
 examples = refl

@@ -14,17 +14,19 @@ use Rattle.definitions.specs.Limits.{maxLabel, labelPlaces, unreached}
 use Rattle.definitions.specs.Lists.{count}
 use Rattle.definitions.specs.Network.{Distance}
 use Rattle.definitions.specs.Blocks.{weight}
-use Rattle.definitions.specs.Intervals.{Interval, Rising}
+use Rattle.definitions.specs.Intervals.{Interval, Rising, Distinct, FirstsRise}
 use Rattle.definitions.specs.Model.{fresh, intervals, trace, AllExtractLeast, allowances}
 use Rattle.definitions.specs.Judgement.{piecesOf}
 use Rattle.definitions.specs.Entries.{rectangleOf, callsOf, answersIn, intervalsOf}
 
--- What an accepted session returns and leaves. The interval buffer holds exactly the model's intervals. Document 01 leaves their order open; here they
--- rise: each begins after the one before it ends, so none stands twice.
+-- What an accepted session returns and leaves. The interval buffer lists exactly the model's intervals, by rising first column, and each once.
 pub record PlainSession (rows cols count : ℕ) (lengths calls : List ℕ) (r : SessionAnswer) (answers after : List ℕ) : Type 0 where
   pub kept : List Interval
   pub written : after ≡ intervalsOf kept
   pub kept-are : kept ≡ intervals (rectangleOf lengths) cols (trace (rectangleOf lengths) rows cols (callsOf calls count) .model)
+  pub firsts-rise : FirstsRise kept
+  pub once : Distinct kept
+  -- no two share a column: each begins after the one before it ends
   pub rising : Rising 0 kept
   -- inserted = removed + kept
   pub balanced : r .inserted ≡ r .removed + length kept

@@ -122,7 +122,9 @@ pub fn run_session(
         answers[3 * j..3 * j + 3].copy_from_slice(&answer);
     }
     intervals.fill(NO_INTERVAL);
-    for (place, interval) in model.intervals().iter().enumerate() {
+    let mut kept = model.intervals();
+    kept.sort_by_key(|&[_, first, _]| first); // document 02, request 2
+    for (place, interval) in kept.iter().enumerate() {
         intervals[3 * place..3 * place + 3].copy_from_slice(interval);
     }
     [0, model.inserted, model.removed]

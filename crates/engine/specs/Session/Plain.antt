@@ -5,8 +5,8 @@ use Prim.Native.Nat.{ℕ}
 use Rattle.definitions.specs.PlainPromises.{PlainSession}
 use Rattle.definitions.specs.declared.SessionAnswer.{SessionAnswer}
 use Rattle.definitions.specs.Lists.{padded}
-use Rattle.definitions.specs.Model.{Call, trace}
-use Rattle.definitions.specs.Entries.{AfterSession, rectangleOf, judgeSession, callsOf, answersOf, answersIn, session}
+use Rattle.definitions.specs.Model.{Model, first-columns-rise, in-order-already, Call, trace}
+use Rattle.definitions.specs.Entries.{AfterSession, rectangleOf, judgeSession, callsOf, answersOf, answersIn, intervalsOf, session}
 use Rattle.logic.specs.Tests.{Equal, equal, differ, equality}
 use Rattle.heap_laws.specs.AllCalls.{trace-each, trace-allowed, trace-extractions}
 use Rattle.heap_laws.specs.HeapTheorems.{intervals-once, inserted-removed-kept}
@@ -17,6 +17,9 @@ use Rattle.engine.specs.Session.SessionChain.{length-callsOf}
 module _ (rows cols count : ℕ) (lengths calls answers₀ intervals₀ : List ℕ) where
   abbrev ks : List Call
   ks = callsOf calls count
+
+  abbrev model : Model
+  model = trace (rectangleOf lengths) rows cols ks .model
 
   -- the answers stand in the buffer
   answers-are : answersIn (answersOf (trace (rectangleOf lengths) rows cols ks .answers)) count ≡ trace (rectangleOf lengths) rows cols ks .answers
@@ -38,8 +41,10 @@ module _ (rows cols count : ℕ) (lengths calls answers₀ intervals₀ : List �
           let s : answersIn answers count ≡ trace (rectangleOf lengths) rows cols ks .answers = rw (ap (λ (x : AfterSession). x .answers) (rw t at e)) answers-are in
           record {
             kept = _;
-            written = ap (λ (x : AfterSession). x .intervals) (rw t at e);
+            written = ap (λ (x : AfterSession). x .intervals) (rw t at e) ∙ ap intervalsOf (in-order-already (rectangleOf lengths) cols model);
             kept-are = refl;
+            firsts-rise = first-columns-rise (rectangleOf lengths) cols model;
+            once = intervals-once (rectangleOf lengths) rows cols ks .1;
             rising = intervals-once (rectangleOf lengths) rows cols ks .0;
             balanced = rw a (inserted-removed-kept (rectangleOf lengths) rows cols ks);
             few = rw (a, s) (trace-allowed (rectangleOf lengths) rows cols ks (g .monge));
