@@ -86,14 +86,18 @@ fn sound_sessions() {
     assert!(largest > MAX_LABEL); // a take may go above what a tell may say
 }
 
-/// Document 02, request 2, with no model: each interval in the buffer begins behind the one before it.
+/// Document 02, request 2, from the buffer alone: each interval has a greater first column than the one before it.
 #[test]
 fn kept_intervals_stand_by_rising_first_column() {
     let mut rng = Rng::new(33);
     let mut most = 0;
     for _ in 0..400 {
         for kind in KINDS {
-            let (_, _, intervals) = compare(&session(kind, 7, &mut rng), PLACES);
+            let s = session(kind, 7, &mut rng);
+            let [mut answers, mut intervals] = PLACES.map(|size| vec![0; size]);
+            let answer =
+                run_session(s.rows, s.cols, s.count, &s.lengths, &s.calls, &mut answers, &mut intervals);
+            assert_eq!(answer.number, 0);
             let firsts: Vec<u32> =
                 intervals.chunks(3).map(|v| v[1]).take_while(|&first| first != UNUSED).collect();
             assert!(firsts.windows(2).all(|pair| pair[0] < pair[1]), "{firsts:?}");

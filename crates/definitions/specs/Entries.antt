@@ -7,7 +7,7 @@
 --   writeField       the nine-column field writer
 --   listing          what the program `labels` writes
 --   writeListing     the same in a lent buffer
-use mathlib.Core.Path.{_≡_, ap}
+use mathlib.Core.Path.{_≡_}
 use mathlib.Core.Bool.{Bool, cond, _&&_}
 use mathlib.Core.List.{List, [], _∷_, _++_, map, flatMap}
 use Prim.Native.Nat.{ℕ, _+_, _*_}
@@ -22,7 +22,7 @@ use Rattle.definitions.specs.Network.{Rectangle}
 use Rattle.definitions.specs.Monge.{isMonge}
 use Rattle.definitions.specs.Blocks.{blocks}
 use Rattle.definitions.specs.Intervals.{Interval, interval, SameIntervals, byFirstColumn, FirstsRise}
-use Rattle.definitions.specs.Model.{Model, intervals, by-first-column-exactly, Call, Answer, trace}
+use Rattle.definitions.specs.Model.{intervals, by-first-column-exactly, Call, Answer, trace}
 use Rattle.definitions.specs.Labelling.{State, labelOf, labelling, reached, extractions, insertions, heldLabel, labels}
 use Rattle.definitions.specs.Judgement.{judgeSource, piecesOf, judgeNetwork}
 use Rattle.definitions.specs.Fields.{blank, lineEnd, fieldAt, decimal, nineColumns}
@@ -108,10 +108,13 @@ session rows cols count lengths calls answers kept =
     } in
     cond (eqb cause 0) done (record { answer = sessionRefusal cause; answers = answers; intervals = kept })
 
--- The order fixes the interval buffer: any list of the model's intervals that rises by first column gives the one that a session leaves.
-pub buffer-fixed : (e : Rectangle) (cols : ℕ) (m : Model) (listed : List Interval) → SameIntervals listed (intervals e cols m) → FirstsRise listed
-    → intervalsOf listed ≡ intervalsOf (byFirstColumn (intervals e cols m))
-buffer-fixed e cols m listed same rise = ap intervalsOf (by-first-column-exactly e cols m listed .1 (same, rise))
+-- This fixes the interval buffer of an accepted session: it holds whatever list has exactly the model's intervals and first columns that rise.
+pub buffer-fixed : (rows cols count : ℕ) (lengths calls answers kept : List ℕ) (listed : List Interval) → judgeSession rows cols count lengths calls answers kept ≡ 0
+    → SameIntervals listed (intervals (rectangleOf lengths) cols (trace (rectangleOf lengths) rows cols (callsOf calls count) .model)) → FirstsRise listed
+    → session rows cols count lengths calls answers kept .intervals ≡ intervalsOf listed
+unfolding session
+buffer-fixed rows cols count lengths calls answers kept listed accepted same rise =
+    rw (accepted, by-first-column-exactly (rectangleOf lengths) cols (trace (rectangleOf lengths) rows cols (callsOf calls count) .model) listed .1 (same, rise))
 
 -- ---- the labelling
 

@@ -84,24 +84,25 @@ firstColumn (interval p f l) = f
 unfoldable pub noLater : Interval → Interval → Bool
 noLater v u = leb (firstColumn v) (firstColumn u)
 
--- an interval put before the first one that it begins no later than
+-- an interval put before the first one that does not begin earlier, or at the end if there is none
 unfoldable pub putInOrder : Interval → List Interval → List Interval
 putInOrder v [] = v ∷ []
 putInOrder v (u ∷ us) = cond (noLater v u) (v ∷ u ∷ us) (u ∷ putInOrder v us)
 
--- The same intervals by rising first column: the order in which document 02, request 2, has a session list those that are kept.
+-- The same intervals by rising first column: the order in which document 02, request 2, has a session list those that are kept. The laws in the file
+-- `Model` say what it comes to.
 unfoldable pub byFirstColumn : List Interval → List Interval
 byFirstColumn [] = []
 byFirstColumn (v ∷ vs) = putInOrder v (byFirstColumn vs)
 
--- an interval begins behind column c
-abbrev pub Behind : ℕ → Interval → Type 0
-Behind c u = c < firstColumn u
+-- an interval begins after column c
+abbrev pub BeginsAfter : ℕ → Interval → Type 0
+BeginsAfter c u = c < firstColumn u
 
--- In plain terms: all that stand after an interval begin behind its first column.
+-- In plain terms, first columns rise: every interval that stands later in the list has a greater one.
 abbrev pub FirstsRise : List Interval → Type 0
 FirstsRise [] = Unit {0}
-FirstsRise (v ∷ vs) = Every (Behind (firstColumn v)) vs × FirstsRise vs
+FirstsRise (v ∷ vs) = Every (BeginsAfter (firstColumn v)) vs × FirstsRise vs
 
 -- How many of the first list are not in the second. Of the intervals after and before a call these are inserted, 01's brought in; of those
 -- before and after it they are removed, 01's dropped.

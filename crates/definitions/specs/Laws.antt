@@ -2,7 +2,7 @@
 --   MongeLaws                                 of `passes` in the file Blocks
 --   LeastLaws                                 of `leastLeft` in the file Model
 --   RunProofs RunLaws                         of `intervals` in the file Model
---   OrderLaws                                 of their order, in the file Model too
+--   OrderLaws                                 of the order of intervals, in the files Model and Entries
 --   FieldProofs LineProofs FieldBack LineBack of `readText` in the file Text: from a text to its plan, and back; for one field, for all lines
 --   TextLaws                                  the same, of the whole text
 --   NeverRefused Diagonal                     what a text is refused for: of `refused-by-6-exactly` in the file Text

@@ -1,10 +1,10 @@
 -- Intervals by rising first column: the proofs behind the laws of `intervals` in the file `Model`.
---   rising-behind rising-firsts   where each begins after the one before it ends, first columns rise
---   not-elsewhere not-behind      an interval is not among those that begin at other columns
+--   rising-after rising-firsts   where each begins after the one before it ends, first columns rise
+--   not-elsewhere not-after      an interval is not among those that begin at other columns
 --   firsts-distinct               where first columns rise, each stands once
 --   one-list                      two lists of the same intervals that both rise are the same list
---   sorts                         however the intervals of a rising list come, each once, `byFirstColumn` gives that list
---   order-stays ordered-exactly   so it leaves a rising list as it is, and gives the one that has its intervals and rises
+--   sorted-same sorts             `byFirstColumn` gives the same intervals, and from those of a rising list, each once and in any order, that list
+--   order-stays ordered-exactly   so it leaves a rising list as it is, and a list of the same intervals that rises is what it gives
 use mathlib.Core.Path.{_≡_, refl, sym, ap, _∙_}
 use mathlib.Core.Bool.{true, false, _||_, or-true}
 use mathlib.Core.List.{List, [], _∷_}
@@ -14,17 +14,17 @@ use native.Mathlib.Omega.{arith}
 use borrow.Author.Tests.{leb-true, leb-false}
 use Rattle.logic.specs.Tests.{clash, or-right, or-swap, Truth, holds, fails, truth}
 use Rattle.definitions.specs.Lists.{Every}
-use Rattle.definitions.specs.Intervals.{Interval, interval, Rising, sameInterval, isKept, Distinct, SameIntervals, firstColumn, noLater, putInOrder, byFirstColumn, Behind, FirstsRise}
+use Rattle.definitions.specs.Intervals.{Interval, interval, Rising, sameInterval, isKept, Distinct, SameIntervals, firstColumn, noLater, putInOrder, byFirstColumn, BeginsAfter, FirstsRise}
 use Rattle.definitions.specs.Laws.Members.{every-imp}
 use Rattle.definitions.specs.Laws.RunProofs.{sameInterval-refl, sameInterval-is, kept-every}
 
-pub rising-behind : (c lo : ℕ) (vs : List Interval) → c < lo → Rising lo vs → Every (Behind c) vs
-rising-behind c lo [] h r = tt
-rising-behind c lo (interval p f l ∷ vs) h r = (omega arith, rising-behind c (suc l) vs (omega arith) (r .2))
+pub rising-after : (c lo : ℕ) (vs : List Interval) → c < lo → Rising lo vs → Every (BeginsAfter c) vs
+rising-after c lo [] h r = tt
+rising-after c lo (interval p f l ∷ vs) h r = (omega arith, rising-after c (suc l) vs (omega arith) (r .2))
 
 pub rising-firsts : (lo : ℕ) (vs : List Interval) → Rising lo vs → FirstsRise vs
 rising-firsts lo [] r = tt
-rising-firsts lo (interval p f l ∷ vs) r = (rising-behind f (suc l) vs (omega arith) (r .2), rising-firsts (suc l) vs (r .2))
+rising-firsts lo (interval p f l ∷ vs) r = (rising-after f (suc l) vs (omega arith) (r .2), rising-firsts (suc l) vs (r .2))
 
 -- ---- each once
 
@@ -32,8 +32,8 @@ rising-firsts lo (interval p f l ∷ vs) r = (rising-behind f (suc l) vs (omega 
 abbrev pub Elsewhere : ℕ → Interval → Type 0
 Elsewhere c u = c ≢ firstColumn u
 
-behind-elsewhere : (c : ℕ) (us : List Interval) → Every (Behind c) us → Every (Elsewhere c) us
-behind-elsewhere c us h = every-imp (Behind c) (Elsewhere c) us (λ u l q. omega arith) h
+after-elsewhere : (c : ℕ) (us : List Interval) → Every (BeginsAfter c) us → Every (Elsewhere c) us
+after-elsewhere c us h = every-imp (BeginsAfter c) (Elsewhere c) us (λ u l q. omega arith) h
 
 -- an interval is not among those that begin elsewhere
 pub not-elsewhere : (v : Interval) (us : List Interval) → Every (Elsewhere (firstColumn v)) us → isKept v us ≡ false
@@ -43,12 +43,12 @@ not-elsewhere v us h = go (truth (isKept v us))
     go (holds t) = absurd (kept-every (Elsewhere (firstColumn v)) v us h t refl)
     go (fails t) = t
 
-pub not-behind : (v : Interval) (us : List Interval) → Every (Behind (firstColumn v)) us → isKept v us ≡ false
-not-behind v us h = not-elsewhere v us (behind-elsewhere (firstColumn v) us h)
+pub not-after : (v : Interval) (us : List Interval) → Every (BeginsAfter (firstColumn v)) us → isKept v us ≡ false
+not-after v us h = not-elsewhere v us (after-elsewhere (firstColumn v) us h)
 
 pub firsts-distinct : (vs : List Interval) → FirstsRise vs → Distinct vs
 firsts-distinct [] r = tt
-firsts-distinct (v ∷ vs) r = (not-behind v vs (r .0), firsts-distinct vs (r .1))
+firsts-distinct (v ∷ vs) r = (not-after v vs (r .0), firsts-distinct vs (r .1))
 
 -- ---- one list
 
@@ -56,8 +56,8 @@ head-kept : (v : Interval) (vs : List Interval) → isKept v (v ∷ vs) ≡ true
 unfolding isKept
 head-kept v vs = simp sameInterval-refl
 
--- the first of a list is that of any other: else each would begin behind the other
-same-head : (u v : Interval) (us vs : List Interval) → Every (Behind (firstColumn u)) us → Every (Behind (firstColumn v)) vs
+-- two rising lists of the same intervals begin with the same one: else each of the two would begin after the other
+same-head : (u v : Interval) (us vs : List Interval) → Every (BeginsAfter (firstColumn u)) us → Every (BeginsAfter (firstColumn v)) vs
     → isKept u (v ∷ vs) ≡ true → isKept v (u ∷ us) ≡ true → u ≡ v
 unfolding isKept
 same-head u v us vs hu hv ku kv = go (truth (sameInterval u v)) (truth (sameInterval v u))
@@ -65,16 +65,16 @@ same-head u v us vs hu hv ku kv = go (truth (sameInterval u v)) (truth (sameInte
     go : Truth (sameInterval u v) → Truth (sameInterval v u) → u ≡ v
     go (holds t) s = sameInterval-is u v t
     go (fails t) (holds s) = sym (sameInterval-is v u s)
-    go (fails t) (fails s) = absurd (omega (arith, kept-every (Behind (firstColumn v)) u vs hv (simp t at ku), kept-every (Behind (firstColumn u)) v us hu (simp s at kv)))
+    go (fails t) (fails s) = absurd (omega (arith, kept-every (BeginsAfter (firstColumn v)) u vs hv (simp t at ku), kept-every (BeginsAfter (firstColumn u)) v us hu (simp s at kv)))
 
--- without their first, two lists of the same intervals are so again
-same-tails : (v : Interval) (us vs : List Interval) → Every (Behind (firstColumn v)) us → Every (Behind (firstColumn v)) vs
+-- and have the same intervals after it
+same-tails : (v : Interval) (us vs : List Interval) → Every (BeginsAfter (firstColumn v)) us → Every (BeginsAfter (firstColumn v)) vs
     → SameIntervals (v ∷ us) (v ∷ vs) → SameIntervals us vs
 unfolding isKept
 same-tails v us vs hu hv s x = go (truth (sameInterval x v)) (s x)
   where
     go : Truth (sameInterval x v) → isKept x (v ∷ us) ≡ isKept x (v ∷ vs) → isKept x us ≡ isKept x vs
-    go (holds t) q = rw (sameInterval-is x v t) (not-behind v us hu ∙ sym (not-behind v vs hv))
+    go (holds t) q = rw (sameInterval-is x v t) (not-after v us hu ∙ sym (not-after v vs hv))
     go (fails t) q = simp t at q
 
 pub one-list : (us vs : List Interval) → SameIntervals us vs → FirstsRise us → FirstsRise vs → us ≡ vs
@@ -103,7 +103,7 @@ put-kept x v (u ∷ us) = go (truth (noLater v u)) (put-kept x v us)
     go (holds t) ih = simp t
     go (fails t) ih = simp t (rw ih (or-swap (sameInterval x u) (sameInterval x v) (isKept x us)))
 
-sorted-same : (vs : List Interval) → SameIntervals (byFirstColumn vs) vs
+pub sorted-same : (vs : List Interval) → SameIntervals (byFirstColumn vs) vs
 unfolding byFirstColumn isKept
 sorted-same [] x = refl
 sorted-same (v ∷ vs) x = put-kept x v (byFirstColumn vs) ∙ ap (λ t. sameInterval x v || t) (sorted-same vs x)
@@ -130,8 +130,8 @@ put-rises v (u ∷ us) d r = go (truth (noLater v u)) (put-rises v us (d .1) (r 
     go : Truth (noLater v u) → FirstsRise (putInOrder v us) → FirstsRise (putInOrder v (u ∷ us))
     go (holds t) ih =
         let before : firstColumn v < firstColumn u = omega (arith, leb-true (firstColumn v) (firstColumn u) t, d .0) in
-        simp t ((before, every-imp (Behind (firstColumn u)) (Behind (firstColumn v)) us (λ w l. omega arith) (r .0)), r)
-    go (fails t) ih = simp t (every-put (Behind (firstColumn u)) v us (leb-false (firstColumn v) (firstColumn u) t) (r .0), ih)
+        simp t ((before, every-imp (BeginsAfter (firstColumn u)) (BeginsAfter (firstColumn v)) us (λ w l. omega arith) (r .0)), r)
+    go (fails t) ih = simp t (every-put (BeginsAfter (firstColumn u)) v us (leb-false (firstColumn v) (firstColumn u) t) (r .0), ih)
 
 sorted-rises : (vs : List Interval) → FirstsDiffer vs → FirstsRise (byFirstColumn vs)
 unfolding byFirstColumn
@@ -144,13 +144,13 @@ unfolding isKept
 one-first x y [] r kx ky e = absurd (clash kx refl)
 one-first x y (v ∷ vs) r kx ky e = go (truth (sameInterval x v)) (truth (sameInterval y v)) (λ a b. one-first x y vs (r .1) a b e)
   where
-    behind : (w : Interval) → isKept w vs ≡ true → firstColumn v < firstColumn w
-    behind w k = kept-every (Behind (firstColumn v)) w vs (r .0) k
+    later : (w : Interval) → isKept w vs ≡ true → firstColumn v < firstColumn w
+    later w k = kept-every (BeginsAfter (firstColumn v)) w vs (r .0) k
 
     go : Truth (sameInterval x v) → Truth (sameInterval y v) → (isKept x vs ≡ true → isKept y vs ≡ true → x ≡ y) → x ≡ y
     go (holds t) (holds u) ih = sameInterval-is x v t ∙ sym (sameInterval-is y v u)
-    go (holds t) (fails u) ih = let q : firstColumn x ≡ firstColumn v = ap firstColumn (sameInterval-is x v t) in absurd (omega (arith, behind y (simp u at ky)))
-    go (fails t) (holds u) ih = let q : firstColumn y ≡ firstColumn v = ap firstColumn (sameInterval-is y v u) in absurd (omega (arith, behind x (simp t at kx)))
+    go (holds t) (fails u) ih = let q : firstColumn x ≡ firstColumn v = ap firstColumn (sameInterval-is x v t) in absurd (omega (arith, later y (simp u at ky)))
+    go (fails t) (holds u) ih = let q : firstColumn y ≡ firstColumn v = ap firstColumn (sameInterval-is y v u) in absurd (omega (arith, later x (simp t at kx)))
     go (fails t) (fails u) ih = ih (simp t at kx) (simp u at ky)
 
 -- those that are among a rising list, each once, begin at different columns
