@@ -66,6 +66,8 @@ HOST_CONSTANTS = {
     "CALLS": "Session.CALL_PLACES",
     "ANSWERS": "Session.ANSWER_PLACES",
     "INTERVALS": "Session.INTERVAL_PLACES",
+    "INTERVAL_SIZE": "Session.INTERVAL_SIZE",
+    "UNUSED": "Session.UNUSED",
     "LINE": "Line.BYTES",
     "LISTING": "answer.LISTING_BYTES",
     "UNREACHED": "Network.UNREACHED",

@@ -3,8 +3,8 @@
 //!
 //! All three labellings must give the same labels, and the two FR-Dijkstras the same counts. The proved one judges the network
 //! before it labels, as it must; so the unproved one does too, by a check of its own. The plain Dijkstra does not. Both FR-Dijkstras
-//! keep the same intervals in the same words, but the unproved one finds the columns that a new row wins by walking outward from the
-//! row's place and takes their least sum, where the proved one finds both ends by halving and scans all intervals of the block.
+//! keep the same five numbers for each interval and read the bests among them, but the unproved one finds the columns that a new row
+//! wins by walking outward from the row's place, where the proved one finds both ends by halving.
 
 use rabdzhine::{LABELS, LENGTHS, SIZES, VERTICES};
 use reference::network::{weight, Lent, Plan, MAX_VERTICES, ROOM};

@@ -50,6 +50,10 @@ static void run_calls(void) {
     for (int j = 0; j < 4; j++) {
         printf("code %u, column %u, sum %u\n", (unsigned)answers[3 * j], (unsigned)answers[3 * j + 1], (unsigned)answers[3 * j + 2]);
     }
+    for (int k = 0; k < RABDZHINE_INTERVALS && intervals[k] != RABDZHINE_UNUSED; k += RABDZHINE_INTERVAL_SIZE) {
+        printf("row %u owns columns %u to %u, best column %u, sum %u\n", (unsigned)intervals[k], (unsigned)intervals[k + 1],
+               (unsigned)intervals[k + 2], (unsigned)intervals[k + 3], (unsigned)intervals[k + 4]);
+    }
 }
 
 int main(void) {

@@ -47,9 +47,15 @@ extern "C" {
 #define RABDZHINE_RECTANGLE 576  /* 24 rows of 24 lengths */
 #define RABDZHINE_CALLS 192      /* kind, row, value of each of 64 calls */
 #define RABDZHINE_ANSWERS 192    /* code, column, sum of each answer */
-#define RABDZHINE_INTERVALS 72   /* owner, first column, last column of each interval */
+#define RABDZHINE_INTERVALS 120  /* the numbers of 24 intervals */
 #define RABDZHINE_LINE 36        /* bytes of a line: four fields of nine columns */
 #define RABDZHINE_LISTING 4901   /* bytes of the longest listing */
+
+/* The numbers of an interval: owner, first column, last column, best column (the lowest one of least sum in it), best sum (that sum). */
+#define RABDZHINE_INTERVAL_SIZE 5
+
+/* What every place of an unused interval holds. A best sum may be 255 too, but no owner is: an unused interval is known by its owner. */
+#define RABDZHINE_UNUSED UINT32_C(255)
 
 /* The label of a gate that no run reaches, and of a place above n. */
 #define RABDZHINE_UNREACHED UINT32_C(4294967295)
@@ -61,7 +67,7 @@ extern "C" {
 #define RABDZHINE_MAX_LABEL UINT32_C(254999745)
 
 /*
- * The stack that a call of each entry may take, in bytes: a third or so above what was measured, and at least 128. With one page of 4,096 bytes below
+ * The stack that a call of each entry may take, in bytes: a third to a half above what was measured, and at least 128. With one page of 4,096 bytes below
  * the stack that cannot be touched, a stack that is too small ends in a fault there, and nothing below is written. An interrupt handler
  * leaves the 128 bytes below the stack pointer as they are (System V ABI), or has a stack of its own.
  */
@@ -140,7 +146,8 @@ rabdzhine_label_answer rabdzhine_label_network(uint32_t n, uint32_t p,
  * Runs 0 to 64 calls on the heap of one block of 1 to 24 rows and columns, from a fresh heap. Row i of the rectangle starts at place 24 * i.
  * A call is kind (1 tell, 2 take), row, value; its answer is code (0, 50 or 9 to 11), column, sum.
  * Returns 0 with intervals brought in and dropped; answers then holds an answer for each call, unused places 0, and intervals the kept
- * intervals by rising first column, each as owner, first column, last column, unused places 255. A refusal, 1, 4, 6 or 7, leaves both.
+ * intervals by rising first column, each as owner, first column, last column, best column, best sum, unused places 255. For the counts
+ * two intervals are the same if their first three numbers are. A refusal, 1, 4, 6 or 7, leaves both.
  */
 rabdzhine_session_answer rabdzhine_run_session(uint32_t rows, uint32_t cols, uint32_t count,
                                                const uint32_t *lengths, size_t lengths_len,

@@ -44,8 +44,12 @@ pub const RECTANGLE: usize = 576;
 pub const CALLS: usize = 192;
 /// Places of a session's answers: code, column and sum of each.
 pub const ANSWERS: usize = 192;
-/// Places of a session's intervals: owner, first and last column of each.
-pub const INTERVALS: usize = 72;
+/// Places of a session's intervals: the numbers of 24.
+pub const INTERVALS: usize = 120;
+/// Numbers of an interval: owner, first column, last column, best column (the lowest one of least sum in it), best sum (that sum).
+pub const INTERVAL_SIZE: usize = 5;
+/// What every place of an unused interval holds. A best sum may be 255 too, but no owner is: an unused interval is known by its owner.
+pub const UNUSED: u32 = 255;
 /// Bytes of a line: four fields of nine columns.
 pub const LINE: usize = 36;
 /// Bytes of the longest listing.
@@ -186,7 +190,25 @@ pub fn label_network(
     }
 }
 
-/// Runs calls on the heap of one block. The kept intervals stand in `intervals` by rising first column. A refusal leaves `answers` and `intervals`.
+/// Runs calls on the heap of one block. The kept intervals stand in `intervals` by rising first column, [`INTERVAL_SIZE`] numbers each. A
+/// refusal leaves `answers` and `intervals`.
+///
+/// ```
+/// use rabdzhine::{run_session, ANSWERS, CALLS, INTERVALS, INTERVAL_SIZE, RECTANGLE, UNUSED};
+///
+/// let (mut lengths, mut calls) = ([0; RECTANGLE], [0; CALLS]);
+/// lengths[..4].copy_from_slice(&[3, 1, 2, 1]);
+/// calls[..6].copy_from_slice(&[1, 0, 10, 2, 0, 0]); // row 0 is told 10, then a column is taken
+/// let (mut answers, mut intervals) = ([0; ANSWERS], [0; INTERVALS]);
+/// let answer = run_session(1, 4, 2, &lengths, &calls, &mut answers, &mut intervals);
+/// assert_eq!((answer.number, answer.inserted, answer.removed), (0, 3, 1));
+/// assert_eq!(answers[3..6], [0, 1, 11]);
+///
+/// let mut kept = intervals.chunks(INTERVAL_SIZE).take_while(|interval| interval[0] != UNUSED);
+/// assert_eq!(kept.next(), Some(&[0, 0, 0, 0, 13][..]));
+/// assert_eq!(kept.next(), Some(&[0, 2, 3, 3, 11][..]));
+/// assert_eq!(kept.next(), None);
+/// ```
 pub fn run_session(
     rows: u32,
     cols: u32,

@@ -18,6 +18,7 @@ code 0, column 0, sum 0
 code 0, column 0, sum 0
 code 0, column 0, sum 5
 code 10, column 0, sum 0
+row 1 owns columns 1 to 1, best column 1, sum 6
 check 0
 field 0 4
 place 2: 0, place 4: 4, line [                         42         ]

@@ -1,6 +1,7 @@
 //! Sessions on one block against the model.
 
-use rabdzhine::{run_session, SessionAnswer, ANSWERS, CALLS, INTERVALS, RECTANGLE};
+use rabdzhine::{run_session, SessionAnswer};
+use rabdzhine::{ANSWERS, CALLS, INTERVALS, INTERVAL_SIZE, RECTANGLE, UNUSED};
 use reference::entries;
 use reference::model::MAX_LABEL;
 use reference::network::{MAX_CALLS, MAX_LENGTH, MAX_SIZE, ROOM};
@@ -29,31 +30,65 @@ fn compare(s: &Session, places: [usize; 2]) -> (u32, Vec<u32>, Vec<u32>) {
 
 const PLACES: [usize; 2] = [ANSWERS, INTERVALS];
 
-/// What a place that no interval uses holds.
-const UNUSED: u32 = 255;
-
-/// A session on the depot's first block, [5 7; 6 4].
-fn depot(calls: &[[u32; 3]]) -> Session {
+/// A session on a rectangle of some rows of `N` lengths.
+fn on<const N: usize>(rectangle: &[[u32; N]], calls: &[[u32; 3]]) -> Session {
     let mut lengths = vec![0; RECTANGLE];
-    lengths[..2].copy_from_slice(&[5, 7]);
-    lengths[ROOM..][..2].copy_from_slice(&[6, 4]);
+    for (places, row) in lengths.chunks_mut(ROOM).zip(rectangle) {
+        places[..N].copy_from_slice(row);
+    }
     let mut lent_calls = vec![0; CALLS];
     lent_calls[..3 * calls.len()].copy_from_slice(&calls.concat());
-    Session { rows: 2, cols: 2, count: calls.len() as u32, lengths, calls: lent_calls }
+    let (rows, cols, count) = (rectangle.len() as u32, N as u32, calls.len() as u32);
+    Session { rows, cols, count, lengths, calls: lent_calls }
+}
+
+/// A session on the depot's first block.
+fn depot(calls: &[[u32; 3]]) -> Session {
+    on(&[[5, 7], [6, 4]], calls)
+}
+
+/// The session keeps exactly these intervals: all places after them are unused.
+fn assert_kept(s: &Session, expected: &[[u32; INTERVAL_SIZE]]) {
+    let (_, _, intervals) = compare(s, PLACES);
+    let (kept, unused) = intervals.split_at(INTERVAL_SIZE * expected.len());
+    assert_eq!(kept, expected.concat());
+    assert!(unused.iter().all(|&x| x == UNUSED));
 }
 
 #[test]
 fn the_depot_examples() {
     let (_, answers, intervals) = compare(&depot(&[[2, 0, 0], [1, 0, 0], [1, 1, 2], [2, 9, 9]]), PLACES);
     assert_eq!(answers[..13], [50, 0, 0, 0, 0, 0, 0, 0, 0, 0, 0, 5, 0]);
-    assert_eq!(intervals[..4], [1, 1, 1, 255]);
+    assert_eq!(intervals[..6], [1, 1, 1, 1, 6, 255]);
     let (_, answers, intervals) = compare(&depot(&[[1, 0, 0], [1, 1, 3]]), PLACES);
     assert_eq!(answers[..6], [0; 6]);
-    assert_eq!(intervals[..4], [0, 0, 1, 255]);
-    let (_, _, intervals) = compare(&depot(&[[1, 0, 0], [1, 1, 2]]), PLACES);
-    assert_eq!(intervals[..7], [0, 0, 0, 1, 1, 1, 255]);
+    assert_eq!(intervals[..6], [0, 0, 1, 0, 5, 255]);
+    assert_kept(&depot(&[[1, 0, 0], [1, 1, 2]]), &[[0, 0, 0, 0, 5], [1, 1, 1, 1, 6]]);
     let (_, answers, _) = compare(&depot(&[[1, 0, 0], [2, 0, 0], [1, 1, 4], [1, 1, 5]]), PLACES);
     assert_eq!(answers[..12], [0, 0, 0, 0, 0, 5, 11, 0, 0, 0, 0, 0]);
+}
+
+/// Of columns with equal least sums the lowest is the best, among all and among those that a take leaves.
+#[test]
+fn the_best_of_columns_with_equal_sums() {
+    let rectangle = [[3, 1, 2, 1, 1]];
+    assert_kept(&on(&rectangle, &[[1, 0, 10]]), &[[0, 0, 4, 1, 11]]);
+    assert_kept(&on(&rectangle, &[[1, 0, 10], [2, 0, 0]]), &[[0, 0, 0, 0, 13], [0, 2, 4, 3, 11]]);
+}
+
+/// Row 1 takes columns 1 and 2 from row 0, the best one among them: what is left of row 0 has another best.
+#[test]
+fn what_is_left_of_an_interval_has_a_best_of_its_own() {
+    let rectangle = [[4, 1, 5], [4, 0, 3]];
+    assert_kept(&on(&rectangle, &[[1, 0, 10]]), &[[0, 0, 2, 1, 11]]);
+    assert_kept(&on(&rectangle, &[[1, 0, 10], [1, 1, 10]]), &[[0, 0, 0, 0, 14], [1, 1, 2, 1, 10]]);
+}
+
+/// A best sum may be what unused places hold.
+#[test]
+fn a_best_sum_of_255_is_no_unused_interval() {
+    let s = on(&[[UNUSED, 900], [900, UNUSED]], &[[1, 0, 0], [1, 1, 0]]);
+    assert_kept(&s, &[[0, 0, 0, 0, 255], [1, 1, 1, 1, 255]]);
 }
 
 #[test]
@@ -98,8 +133,8 @@ fn kept_intervals_stand_by_rising_first_column() {
             let answer =
                 run_session(s.rows, s.cols, s.count, &s.lengths, &s.calls, &mut answers, &mut intervals);
             assert_eq!(answer.number, 0);
-            let firsts: Vec<u32> =
-                intervals.chunks(3).map(|v| v[1]).take_while(|&first| first != UNUSED).collect();
+            let kept = intervals.chunks(INTERVAL_SIZE).take_while(|v| v[0] != UNUSED);
+            let firsts: Vec<u32> = kept.map(|v| v[1]).collect();
             assert!(firsts.windows(2).all(|pair| pair[0] < pair[1]), "{firsts:?}");
             most = most.max(firsts.len());
         }

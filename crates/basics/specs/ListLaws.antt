@@ -68,6 +68,10 @@ pub every-map : {A B : Type 0} (P : A → Type 0) (Q : B → Type 0) (f : A → 
 every-map P Q f [] g h = tt
 every-map P Q f (x ∷ xs) g h = (g x (h .0), every-map P Q f xs g (h .1))
 
+pub map-each : {A B : Type 0} (P : A → Type 0) (f g : A → B) (xs : List A) → ((x : A) → P x → f x ≡ g x) → Every P xs → map f xs ≡ map g xs
+map-each P f g [] e h = refl
+map-each P f g (x ∷ xs) e h = rw (e x (h .0), map-each P f g xs e (h .1))
+
 pub map-same : {A B : Type 0} (f : A → A) (h : A → B) (xs : List A) → ((x : A) → h (f x) ≡ h x) → map h (map f xs) ≡ map h xs
 map-same f h [] e = refl
 map-same f h (x ∷ xs) e = rw (e x, map-same f h xs e)

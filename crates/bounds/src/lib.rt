@@ -50,8 +50,8 @@ impl Session {
     // the numbers of an answer: its code, a column, a sum
     pub const ANSWER_SIZE: usize = 3;
 
-    // the numbers of an interval: its parent, its first and its last column
-    pub const INTERVAL_SIZE: usize = 3;
+    // the numbers of an interval: its parent, its first and its last column, its best column and that one's sum
+    pub const INTERVAL_SIZE: usize = 5;
 
     // the rows of the rectangle
     pub const SIDE_PLACES: usize = Session::MAX_SIDE as usize;

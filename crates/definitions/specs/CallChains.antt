@@ -13,9 +13,9 @@ use Rattle.definitions.specs.declared.Called.{Called}
 use Rattle.definitions.specs.Limits.{maxSide, rowPlaces, answerSize, unreached}
 use Rattle.definitions.specs.Lists.{total, Every}
 use Rattle.definitions.specs.Intervals.{Distinct, countNew}
-use Rattle.definitions.specs.Model.{Model, fresh, isActivated, intervals, Call, extracts, Answer, Stepped, step, allowance, ExtractsLeast, Trace, trace, AllExtractLeast, allowances}
+use Rattle.definitions.specs.Model.{Model, fresh, isActivated, intervals, withBest, Call, extracts, Answer, Stepped, step, allowance, ExtractsLeast, Trace, trace, AllExtractLeast, allowances}
 use Rattle.definitions.specs.Entries.{answerNumbers}
-use Rattle.definitions.specs.HeapWords.{heapWords, kept}
+use Rattle.definitions.specs.HeapWords.{heapWords, kept, listedIn}
 use Rattle.definitions.specs.HeldModel.{lentEntry, Checked, Holds}
 
 -- ---- one call
@@ -68,6 +68,8 @@ pub record Agrees (rows : List (List ℕ)) (cols : ℕ) (ks : List Call) (heap l
   pub keeps : SessionHolds rows cols heap labels (traceOf rows cols ks .model .floor) (traceOf rows cols ks .model)
   -- the kept intervals are exactly the model's, each once
   pub kept-are : kept heap ≡ intervals (lentEntry rows 0) cols (traceOf rows cols ks .model)
+  -- each with its best
+  pub listed-are : listedIn heap ≡ map (withBest (lentEntry rows 0) (traceOf rows cols ks .model)) (kept heap)
   pub once : Distinct (kept heap)
   pub inserted-is : inserted ≡ traceOf rows cols ks .inserted
   pub removed-is : removed ≡ traceOf rows cols ks .removed

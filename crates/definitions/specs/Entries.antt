@@ -21,8 +21,9 @@ use Rattle.definitions.specs.Lists.{all, upFrom, padded, within, firstCa
 use Rattle.definitions.specs.Network.{Rectangle}
 use Rattle.definitions.specs.Monge.{isMonge}
 use Rattle.definitions.specs.Blocks.{blocks}
+use Rattle.definitions.specs.Best.{Best, nobody, by}
 use Rattle.definitions.specs.Intervals.{Interval, interval, SameIntervals, byFirstColumn, FirstsRise}
-use Rattle.definitions.specs.Model.{intervals, by-first-column-exactly, Call, Answer, trace}
+use Rattle.definitions.specs.Model.{intervals, by-first-column-exactly, Listed, withBest, Call, Answer, trace}
 use Rattle.definitions.specs.Labelling.{State, labelOf, labelling, reached, extractions, insertions, heldLabel, labels}
 use Rattle.definitions.specs.Judgement.{judgeSource, piecesOf, judgeNetwork}
 use Rattle.definitions.specs.Fields.{blank, lineEnd, fieldAt, decimal, nineColumns}
@@ -82,20 +83,29 @@ answerAt answers j = record { code = getD answers (answerSize * j) 0; column = g
 unfoldable pub answersIn : List ℕ → ℕ → List Answer
 answersIn answers count = map (answerAt answers) (upFrom 0 count)
 
--- the three numbers of an interval
-abbrev pub intervalNumbers : Interval → List ℕ
-intervalNumbers (interval p f l) = p ∷ f ∷ l ∷ []
+-- the parent, the first and the last column of an interval
+abbrev pub columnNumbers : Interval → List ℕ
+columnNumbers (interval p f l) = p ∷ f ∷ l ∷ []
 
--- the interval buffer, in the order of the list; unused places are 255
-unfoldable pub intervalsOf : List Interval → List ℕ
+-- The column and the sum of a best. That of an interval is never nobody (`each-has-best` in the file `Model`), so the first line is not met.
+abbrev pub bestNumbers : Best → List ℕ
+bestNumbers nobody = unusedInterval ∷ unusedInterval ∷ []
+bestNumbers (by c s) = c ∷ s ∷ []
+
+-- the five numbers of an interval with its best (02, request 3)
+abbrev pub intervalNumbers : Listed → List ℕ
+intervalNumbers u = columnNumbers (u .interval) ++ bestNumbers (u .best)
+
+-- The interval buffer, in the order of the list; unused places are 255. A best sum may be 255 too, a parent not: by its parent an unused interval is known.
+unfoldable pub intervalsOf : List Listed → List ℕ
 intervalsOf listed = padded intervalPlaces unusedInterval (flatMap intervalNumbers listed)
 
 -- a refusal returns its number and counts of 0
 abbrev pub sessionRefusal : ℕ → SessionAnswer
 sessionRefusal k = record { number = k; inserted = 0; removed = 0 }
 
--- The calls on a fresh model. The kept intervals are the model's, and they stand by rising first column, as document 02, request 2, has it. A refusal
--- leaves both buffers.
+-- The calls on a fresh model. The kept intervals are the model's, and they stand by rising first column, each with its best, as document 02, requests 2
+-- and 3, has it. A refusal leaves both buffers.
 unfoldable pub session : ℕ → ℕ → ℕ → List ℕ → List ℕ → List ℕ → List ℕ → AfterSession
 session rows cols count lengths calls answers kept =
     let cause = judgeSession rows cols count lengths calls answers kept in
@@ -104,14 +114,16 @@ session rows cols count lengths calls answers kept =
     let done : AfterSession = record {
       answer = record { number = 0; inserted = t .inserted; removed = t .removed };
       answers = answersOf (t .answers);
-      intervals = intervalsOf (byFirstColumn (intervals e cols (t .model)));
+      intervals = intervalsOf (map (withBest e (t .model)) (byFirstColumn (intervals e cols (t .model))));
     } in
     cond (eqb cause 0) done (record { answer = sessionRefusal cause; answers = answers; intervals = kept })
 
--- This fixes the interval buffer of an accepted session: it holds whatever list has exactly the model's intervals and first columns that rise.
+-- This fixes the interval buffer of an accepted session: it holds whatever list has exactly the model's intervals and first columns that rise, with
+-- their bests.
 pub buffer-fixed : (rows cols count : ℕ) (lengths calls answers kept : List ℕ) (listed : List Interval) → judgeSession rows cols count lengths calls answers kept ≡ 0
-    → SameIntervals listed (intervals (rectangleOf lengths) cols (trace (rectangleOf lengths) rows cols (callsOf calls count) .model)) → FirstsRise listed
-    → session rows cols count lengths calls answers kept .intervals ≡ intervalsOf listed
+    → let model = trace (rectangleOf lengths) rows cols (callsOf calls count) .model in
+    SameIntervals listed (intervals (rectangleOf lengths) cols model) → FirstsRise listed
+    → session rows cols count lengths calls answers kept .intervals ≡ intervalsOf (map (withBest (rectangleOf lengths) model) listed)
 unfolding session
 buffer-fixed rows cols count lengths calls answers kept listed accepted same rise =
     rw (accepted, by-first-column-exactly (rectangleOf lengths) cols (trace (rectangleOf lengths) rows cols (callsOf calls count) .model) listed .1 (same, rise))

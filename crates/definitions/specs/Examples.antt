@@ -1,5 +1,5 @@
--- Document 01, "Depot examples": P1 to P12, rows of one table closed by one statement, by computation from the definitions. P9 lists its two
--- intervals in the order of document 02, request 2; the second half of P12 is that of request 1.
+-- Document 01, "Depot examples": P1 to P12, rows of one table closed by one statement, by computation from the definitions. P7 to P11
+-- have the five numbers of document 02, request 3, for each interval; P9 lists its two in the order of request 2; the second half of P12 is that of request 1.
 use mathlib.Core.Path.{_≡_, refl}
 use mathlib.Core.List.{List, [], _∷_, _++_, map, flatMap}
 use Prim.Native.Nat.{ℕ, pred}
@@ -165,12 +165,12 @@ table =
     ∷ row 4 (calls (9 ∷ 7 ∷ []) (6 ∷ 4 ∷ []) []) (done [] [] 0 0)
     ∷ row 5 (calls (10 ∷ 7 ∷ []) (6 ∷ 4 ∷ []) []) (leaves 7 (replicate answerPlaces filler) (replicate intervalPlaces filler) 0 0)
     ∷ onBlock 6 (extraction ∷ []) (50 ∷ 0 ∷ 0 ∷ []) [] 0 0
-    ∷ onBlock 7 (activation 0 0 ∷ []) (0 ∷ 0 ∷ 0 ∷ []) (0 ∷ 0 ∷ 1 ∷ []) 1 0
-    ∷ onBlock 8 (activation 0 0 ∷ activation 1 3 ∷ []) (0 ∷ 0 ∷ 0 ∷ 0 ∷ 0 ∷ 0 ∷ []) (0 ∷ 0 ∷ 1 ∷ []) 1 0
-    ∷ onBlock 9 (activation 0 0 ∷ activation 1 2 ∷ []) (0 ∷ 0 ∷ 0 ∷ 0 ∷ 0 ∷ 0 ∷ []) (0 ∷ 0 ∷ 0 ∷ 1 ∷ 1 ∷ 1 ∷ []) 3 1
-    ∷ onBlock 10 (activation 0 0 ∷ activation 1 2 ∷ extraction ∷ []) (0 ∷ 0 ∷ 0 ∷ 0 ∷ 0 ∷ 0 ∷ 0 ∷ 0 ∷ 5 ∷ []) (1 ∷ 1 ∷ 1 ∷ []) 3 2
-    ∷ onBlock 11 (activation 0 0 ∷ extraction ∷ activation 1 4 ∷ []) (0 ∷ 0 ∷ 0 ∷ 0 ∷ 0 ∷ 5 ∷ 11 ∷ 0 ∷ 0 ∷ []) (0 ∷ 1 ∷ 1 ∷ []) 2 1
-    ∷ onBlock 11 (activation 0 0 ∷ extraction ∷ activation 1 5 ∷ []) (0 ∷ 0 ∷ 0 ∷ 0 ∷ 0 ∷ 5 ∷ 0 ∷ 0 ∷ 0 ∷ []) (0 ∷ 1 ∷ 1 ∷ []) 2 1
+    ∷ onBlock 7 (activation 0 0 ∷ []) (0 ∷ 0 ∷ 0 ∷ []) (0 ∷ 0 ∷ 1 ∷ 0 ∷ 5 ∷ []) 1 0
+    ∷ onBlock 8 (activation 0 0 ∷ activation 1 3 ∷ []) (0 ∷ 0 ∷ 0 ∷ 0 ∷ 0 ∷ 0 ∷ []) (0 ∷ 0 ∷ 1 ∷ 0 ∷ 5 ∷ []) 1 0
+    ∷ onBlock 9 (activation 0 0 ∷ activation 1 2 ∷ []) (0 ∷ 0 ∷ 0 ∷ 0 ∷ 0 ∷ 0 ∷ []) (0 ∷ 0 ∷ 0 ∷ 0 ∷ 5 ∷ 1 ∷ 1 ∷ 1 ∷ 1 ∷ 6 ∷ []) 3 1
+    ∷ onBlock 10 (activation 0 0 ∷ activation 1 2 ∷ extraction ∷ []) (0 ∷ 0 ∷ 0 ∷ 0 ∷ 0 ∷ 0 ∷ 0 ∷ 0 ∷ 5 ∷ []) (1 ∷ 1 ∷ 1 ∷ 1 ∷ 6 ∷ []) 3 2
+    ∷ onBlock 11 (activation 0 0 ∷ extraction ∷ activation 1 4 ∷ []) (0 ∷ 0 ∷ 0 ∷ 0 ∷ 0 ∷ 5 ∷ 11 ∷ 0 ∷ 0 ∷ []) (0 ∷ 1 ∷ 1 ∷ 1 ∷ 7 ∷ []) 2 1
+    ∷ onBlock 11 (activation 0 0 ∷ extraction ∷ activation 1 5 ∷ []) (0 ∷ 0 ∷ 0 ∷ 0 ∷ 0 ∷ 5 ∷ 0 ∷ 0 ∷ 0 ∷ []) (0 ∷ 1 ∷ 1 ∷ 1 ∷ 7 ∷ []) 2 1
     ∷ row 12 (field "    00") (refuses 3)
     ∷ row 12 (program longLength) (writes (bytes "        1        4        8        8\n        1        0\n        2       11\n        3        7\n        4        5\n        5        -\n"))
     ∷ row 12 (read longLength) (depotFills (0 ∷ 100000 ∷ 7 ∷ 5 ∷ []))
@@ -178,7 +178,7 @@ table =
     ∷ row 12 (read longDiagonal) (fills 6 0 0 0 (replicate sizePlaces 0) (replicate vertexPlaces 0) (replicate lengthPlaces 0))
     ∷ []
 
--- every row shows what document 01 says, P9 and P12 with requests 2 and 1 of document 02
+-- every row shows what document 01 says, P7 to P12 with requests 1 to 3 of document 02
 pub examples : map (λ r. run (r .example)) table ≡ map (λ r. r .shown) table
 unfolding bytes depotWith depot longLength longDiagonal depotFills countsOf readInto filled labelLent listed entriesOf blockIn runSession left run row activation extraction done onBlock table flatMap all every mem different total upFrom downTo padded within firstCause splits splitsOf windows windowsOf rowsOf columnsOf corners isMonge lesser least through parent available placed leastFrom adjoins joined prepend prependColumn runs intervals sameInterval isKept noLater putInOrder byFirstColumn countNew isActivated judge activate extract step extend traceFrom trace entry sizeOf blockOf blocksOf blocks passes freshBlock apply leastOf placeOf activateAt activateVertex labelOf settleAs settle chosen placeIn extractFrom advance steps start columns labelling reached extractions insertions heldLabel labels judgeBounds judgeSize judgeVertices judgeRow judgeRows judgeBlocks judgeSource judgePiece pieceAt piecesOf judgeFrom judgeNetwork isDigit skipBlanks isNumeral numeralValue fieldOf fieldAt lengthAt readField readFields judgeLineEnd readLine readRows readPiece pieceBytes readPieces judgeEnd readBody readPlan judgeLength readText sizesOf verticesOf tableOf lengthsOf hasPlaces judgeBuffers afterRead reading judgeLabelling labelAnswer labelNetwork rectangleOf judgeSession callAt callsOf answersOf intervalsOf session digitsOf decimal rightJustified nineColumns listingLine refusalLine stateListing planListing listing
 examples = refl

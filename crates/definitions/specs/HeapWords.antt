@@ -1,15 +1,19 @@
 -- The words of an interval heap: how many there are, which is which, and the intervals that they hold. Whoever reads, writes or counts them rests on
 -- this file.
 --   countWord markWord headWords                       what stands before the intervals
---   parentWord firstWord lastWord intervalWords        the words of one interval
+--   parentWord .. bestSumWord intervalWords            the words of one interval
 --   intervalStart heapWords                            where interval k begins; how many words a heap takes
---   countOf markOf parentAt firstAt lastAt             what the words say
+--   countOf markOf parentAt .. bestSumAt               what the words say
 --   intervalAt span kept                               the intervals that they hold
-use mathlib.Core.List.{List, [], _∷_}
+--   bestAt listedAt listedIn                           the same with their bests
+use mathlib.Core.List.{List, [], _∷_, map}
 use Prim.Native.Nat.{ℕ, zero, suc, _+_, _*_}
 use lib.ListN.{getD}
 use Rattle.definitions.specs.Limits.{intervalSize}
+use Rattle.definitions.specs.Lists.{upFrom}
+use Rattle.definitions.specs.Best.{Best, by}
 use Rattle.definitions.specs.Intervals.{Interval, interval}
+use Rattle.definitions.specs.Model.{Listed}
 
 -- ---- which is which
 
@@ -32,6 +36,12 @@ firstWord = 1
 
 abbrev pub lastWord : ℕ
 lastWord = 2
+
+abbrev pub bestColumnWord : ℕ
+bestColumnWord = 3
+
+abbrev pub bestSumWord : ℕ
+bestSumWord = 4
 
 abbrev pub intervalWords : ℕ
 intervalWords = intervalSize
@@ -62,6 +72,12 @@ firstAt w k = getD w (intervalStart k + firstWord) 0
 unfoldable pub lastAt : List ℕ → ℕ → ℕ
 lastAt w k = getD w (intervalStart k + lastWord) 0
 
+unfoldable pub bestColumnAt : List ℕ → ℕ → ℕ
+bestColumnAt w k = getD w (intervalStart k + bestColumnWord) 0
+
+unfoldable pub bestSumAt : List ℕ → ℕ → ℕ
+bestSumAt w k = getD w (intervalStart k + bestSumWord) 0
+
 unfoldable pub intervalAt : List ℕ → ℕ → Interval
 intervalAt w k = interval (parentAt w k) (firstAt w k) (lastAt w k)
 
@@ -73,3 +89,14 @@ span w i (suc n) = intervalAt w i ∷ span w (suc i) n
 -- all of them
 unfoldable pub kept : List ℕ → List Interval
 kept w = span w 0 (countOf w)
+
+-- ---- with their bests
+
+abbrev pub bestAt : List ℕ → ℕ → Best
+bestAt w k = by (bestColumnAt w k) (bestSumAt w k)
+
+abbrev pub listedAt : List ℕ → ℕ → Listed
+listedAt w k = record { interval = intervalAt w k; best = bestAt w k }
+
+unfoldable pub listedIn : List ℕ → List Listed
+listedIn w = map (listedAt w) (upFrom 0 (countOf w))

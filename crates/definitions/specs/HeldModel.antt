@@ -1,6 +1,6 @@
 -- Words that hold a model of the block that is lent.
 --   lentEntry Checked    the block
---   mark Holds           the words hold the model's intervals, the labels those of its activated rows
+--   mark Holds           the words hold the model's intervals and their bests, the labels those of its activated rows
 use mathlib.Core.Path.{_≡_}
 use mathlib.Core.List.{List, [], _∷_}
 use Prim.Native.Nat.{ℕ, _+_, _≤_, _<_}
@@ -9,8 +9,8 @@ use Rattle.definitions.specs.Limits.{maxSide, maxLength, rowPlaces}
 use Rattle.definitions.specs.Lists.{Every}
 use Rattle.definitions.specs.Network.{Rectangle}
 use Rattle.definitions.specs.Monge.{Monge}
-use Rattle.definitions.specs.Model.{Activation, Model, intervals, Reached}
-use Rattle.definitions.specs.HeapWords.{heapWords, markOf, kept}
+use Rattle.definitions.specs.Model.{Activation, Model, intervals, bestIn, Reached}
+use Rattle.definitions.specs.HeapWords.{heapWords, countOf, markOf, intervalAt, kept, bestAt}
 
 -- an entry of the block whose rows are lent, from column col0 on
 unfoldable pub lentEntry : List (List ℕ) → ℕ → Rectangle
@@ -36,6 +36,8 @@ pub record Holds (w : List ℕ) (rows : List (List ℕ)) (col0 cols : ℕ) (labe
   pub labelled : length rows ≤ length labels
   -- the intervals in the words are the model's in order, each once
   pub listed : kept w ≡ intervals (lentEntry rows col0) cols m
+  -- each with its best
+  pub bests : (k : ℕ) → k < countOf w → bestAt w k ≡ bestIn (lentEntry rows col0) m (intervalAt w k)
   pub marked : markOf w ≡ mark (m .activated)
   -- the label of each activated row lies at the row's place
   pub labels-at : Every (λ a. getD labels (a .row) 0 ≡ a .label) (m .activated)

@@ -3,7 +3,8 @@
 --   prependColumn runs                 the longest runs
 --   LongestRun                         one of them in plain terms
 --   Rising                             each begins after the one before it ends
---   isKept Distinct SameIntervals      an interval among others; each stands once; the same in two lists
+--   sameInterval isKept Distinct SameIntervals    an interval among others; each stands once; the same in two lists
+--   firstColumn lastColumn             where an interval begins and ends
 --   byFirstColumn FirstsRise           by rising first column, document 02, request 2
 --   countNew                           how many of one list are not in another
 use mathlib.Core.Path.{_≡_}
@@ -58,7 +59,7 @@ abbrev pub Rising : ℕ → List Interval → Type 0
 Rising lo [] = Unit {0}
 Rising lo (interval p f l ∷ vs) = (lo ≤ f) × (f ≤ l) × Rising (suc l) vs
 
--- same parent, first and last column
+-- same parent, first and last column: all that counts (document 02, request 3), and an interval has no best here
 unfoldable pub sameInterval : Interval → Interval → Bool
 sameInterval (interval p f l) (interval p′ f′ l′) = eqb p p′ && eqb f f′ && eqb l l′
 
@@ -76,9 +77,12 @@ Distinct (v ∷ vs) = (isKept v vs ≡ false) × Distinct vs
 abbrev pub SameIntervals : List Interval → List Interval → Type 0
 SameIntervals us vs = (v : Interval) → isKept v us ≡ isKept v vs
 
--- the column at which an interval begins
+-- the columns at which an interval begins and ends
 abbrev pub firstColumn : Interval → ℕ
 firstColumn (interval p f l) = f
+
+abbrev pub lastColumn : Interval → ℕ
+lastColumn (interval p f l) = l
 
 -- the first begins no later than the second
 unfoldable pub noLater : Interval → Interval → Bool

@@ -61,17 +61,18 @@ lengthPlaces = maxPieces * tablePlaces
 abbrev pub labelPlaces : ℕ
 labelPlaces = maxVertices
 
--- (01, The heap of one block) Three numbers are a call, an answer, an interval.
+-- (01, The heap of one block) Three numbers are a call and an answer.
 abbrev pub callSize : ℕ
 callSize = 3
 
 abbrev pub answerSize : ℕ
 answerSize = 3
 
+-- (02, request 3) Five are an interval: its parent, its first and last column, and its best, a column and a sum.
 abbrev pub intervalSize : ℕ
-intervalSize = 3
+intervalSize = 5
 
--- (01, The heap of one block) A session's buffers: 576 lengths, 192 numbers of calls and of answers, 72 of intervals.
+-- (01, The heap of one block) A session's buffers: 576 lengths, 192 numbers of calls and of answers; 120 of intervals (02, request 3).
 abbrev pub rectanglePlaces : ℕ
 rectanglePlaces = maxSide * rowPlaces
 

@@ -1,9 +1,9 @@
 -- What the session and the labelling promise in plain terms, beside their equations with `session` and `labelNetwork` of the file `Entries`.
---   PlainSession   the intervals that an accepted session keeps, its counts, and what its extractions answer
+--   PlainSession   the intervals that an accepted session keeps and their bests, its counts, and what its extractions answer
 --   PlainLabels    the labels of an accepted network, demand 2, and the counts
 use mathlib.Core.Path.{_≡_}
 use mathlib.Core.Bool.{not}
-use mathlib.Core.List.{List}
+use mathlib.Core.List.{List, map}
 use mathlib.Core.Logic.{_≢_}
 use Prim.Native.Nat.{ℕ, suc, _+_, _*_, _≤_, _<_}
 use lib.Dec.{eqb}
@@ -11,19 +11,24 @@ use lib.ListN.{getD, length}
 use Rattle.definitions.specs.declared.LabelAnswer.{LabelAnswer}
 use Rattle.definitions.specs.declared.SessionAnswer.{SessionAnswer}
 use Rattle.definitions.specs.Limits.{maxLabel, labelPlaces, unreached}
-use Rattle.definitions.specs.Lists.{count}
+use Rattle.definitions.specs.Lists.{Every, count}
 use Rattle.definitions.specs.Network.{Distance}
 use Rattle.definitions.specs.Blocks.{weight}
 use Rattle.definitions.specs.Intervals.{Interval, Rising, Distinct, FirstsRise}
-use Rattle.definitions.specs.Model.{fresh, intervals, trace, AllExtractLeast, allowances}
+use Rattle.definitions.specs.Model.{fresh, intervals, Listed, HasBest, trace, AllExtractLeast, allowances}
 use Rattle.definitions.specs.Judgement.{piecesOf}
 use Rattle.definitions.specs.Entries.{rectangleOf, callsOf, answersIn, intervalsOf}
 
--- What an accepted session returns and leaves. The interval buffer lists exactly the model's intervals, by rising first column, and each once.
+-- What an accepted session returns and leaves. The interval buffer lists exactly the model's intervals, by rising first column, and each once, with its
+-- best.
 pub record PlainSession (rows cols count : ℕ) (lengths calls : List ℕ) (r : SessionAnswer) (answers after : List ℕ) : Type 0 where
+  pub listed : List Listed
   pub kept : List Interval
-  pub written : after ≡ intervalsOf kept
+  pub written : after ≡ intervalsOf listed
+  pub each-listed : map (λ u. u .interval) listed ≡ kept
   pub kept-are : kept ≡ intervals (rectangleOf lengths) cols (trace (rectangleOf lengths) rows cols (callsOf calls count) .model)
+  -- the best of each: the least sum of its columns, and the lowest column that has it
+  pub bests : Every (HasBest (rectangleOf lengths) (trace (rectangleOf lengths) rows cols (callsOf calls count) .model)) listed
   pub firsts-rise : FirstsRise kept
   pub once : Distinct kept
   -- no two share a column: each begins after the one before it ends

@@ -41,6 +41,7 @@
 -- One block (`Labeller/State`, `Labeller/LentHeaps`)
 --   ActivateBlockNeeds Leaves, ExtractBlockNeeds Leaves    a call on a block, with the tournament
 --   ActivateHeapNeeds Leaves, ExtractHeapNeeds Leaves      a call on a block's heap
+--   HeapActivated         the heap holds the next model, and the block's least sum falls as is returned
 --   BlockKeyNeeds Leaves  the key of its least sum
 --   CallDone ExtractionDone    the states after a call, and how many intervals are inserted; an extraction's answer
 --   Accepts HasBlock      an activation that is not refused; a block of some states that the heaps hold
@@ -73,9 +74,11 @@
 --   ActivateGiven ActivateNeeds Leaves    the model is held, and the activation is not refused; for some model; the next model is held, for every model
 --   MinExtracted ExtractMinLeaves    the column of least sum is extracted and answered; for every model
 --   Becomes               the words hold the next model, and so many intervals are inserted and removed
---   LeastLeaves Keeps, LeastInLeaves    the lowest column of least sum; of the intervals so far; of one interval and what was found before
---   IsBest                the lowest column of least length on a stretch of a row
---   InItsInterval         the column that was found lies in the interval at its place
+--   RowActivated Falls    the next model is held, and the least sum falls as is returned
+--   LeastLeaves Keeps     the least of the bests; of the intervals so far
+--   IsBest RowBest StretchFits    the lowest column of least length on a stretch of a row; an interval carries the best of its stretch; a stretch that can be read
+--   PutFirstLeaves        one interval with all columns
+--   PutWonNeeds Leaves    the columns that are won, with room for the row's interval; it stands in their place
 --   Owned Where           the parent and the sum of a column of an interval; a column lies in an interval, or nobody has it
 --
 -- The columns that a new row wins (`Heap/Search`, `Heap/Bisect`)
@@ -83,13 +86,15 @@
 --   TurnLeaves EndOfLeaves     the column at which a test begins to hold; one past the last column before it
 --   FirstYesNeeds Between      a question whose answers do not fall back; where they turn to yes
 --   Asked                 a number that the question may be asked of
---   Laid In               the intervals lie in order and their sums fit; a column is one of an interval's
+--   WinsBeside            where it says so, no column is won
 --
--- The words (`Heap/Clear`, `Heap/WordLaws`)
+-- The words (`Heap/Laid`, `Heap/Clear`, `Heap/WordLaws`)
 --   CutNeeds Leaves       a column of an interval; the interval gives way to its rests
---   ClearLeaves           the same of some columns and the intervals that meet them, with a gap between the rests
---   ReplaceNeeds Leaves   some intervals give way to two rests
+--   Cleared               the same of some columns and the intervals that meet them, with a gap between the rests
+--   CanReplace Replaced   some intervals can give way to two rests; they have
+--   MakeRoomNeeds Leaves  places for others in place of some intervals
 --   Meets Room            the intervals that meet some columns; the words have room for what takes their place
---   PutFirstLeaves PutRestLeaves PutLeaves    one interval with all columns; what is left of an interval; an interval
+--   PutRestLeaves PutLeaves    what is left of an interval; an interval
+--   Laid In               the intervals lie in order, their sums fit, each carries its best; a column is one of an interval's
 --   ShiftLeaves Keeps     intervals are moved to other places; some are still to be moved
 --   Outside Word          words that agree but for some intervals; a word that is read

@@ -29,7 +29,7 @@ use Rattle.heap_laws.specs.Sides.{Break, runs-one}
 use Rattle.heap_laws.specs.Counting.{countNew-same}
 use Rattle.heap_laws.specs.Edits.{before, from, cutAt, cutAt-le, edited, edited-new}
 
-activate-lost : (e : Rectangle) (m : Model) (r v c : ℕ) → won e (m .activated) r v c ≡ false → available e (activate m r v) c ≡ available e m c
+pub activate-lost : (e : Rectangle) (m : Model) (r v c : ℕ) → won e (m .activated) r v c ≡ false → available e (activate m r v) c ≡ available e m c
 unfolding available activate through won
 activate-lost e m r v c h = rw (parent-snoc, loses (parent e (m .activated) c) r (sum v (e r c)) h)
 

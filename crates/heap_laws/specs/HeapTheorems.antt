@@ -5,24 +5,26 @@
 --   the calls        one-more refused-changes-nothing
 --   the model        parents-rise won-one-range floors
 --   activate         activation-edits activation-wins-nothing activation-first
---   extract          extraction-none extraction-some extractions-least extraction-edits
+--   extract          extraction-none extraction-some extractions-least
+--   the bests        bests-right extraction-reads-bests activation-lowers activation-keeps
+--   extract          extraction-edits
 --   the intervals    intervals-once
---   the counts       inserted-removed-kept extraction-inserts activation-inserts insertions-allowed insertions-few
+--   the counts       inserted-removed-kept counted-by-columns extraction-inserts activation-inserts insertions-allowed insertions-few
 --   the places read  used-places
-use mathlib.Core.Path.{_≡_}
+use mathlib.Core.Path.{_≡_, refl}
 use mathlib.Core.Bool.{true, false}
-use mathlib.Core.List.{List, [], _∷_, _++_}
+use mathlib.Core.List.{List, [], _∷_, _++_, map}
 use mathlib.Core.Logic.{_≢_}
-use Prim.Native.Nat.{ℕ, suc, pred, _+_, _*_, _≤_, _<_}
+use Prim.Native.Nat.{ℕ, suc, pred, _+_, _-_, _*_, _≤_, _<_}
 use native.Mathlib.Omega.{arith}
 use lib.ListN.{length}
 use Rattle.definitions.specs.Limits.{sum}
-use Rattle.definitions.specs.Lists.{mem}
+use Rattle.definitions.specs.Lists.{mem, Every}
 use Rattle.definitions.specs.Network.{Rectangle}
 use Rattle.definitions.specs.Monge.{Monge}
-use Rattle.definitions.specs.Best.{by}
-use Rattle.definitions.specs.Intervals.{Interval, interval, Distinct, Rising}
-use Rattle.definitions.specs.Model.{LeastLeft, parent, available, extract, Model, fresh, intervals, intervals-rise, Call, extracts, coded, nothingLeft, judge, step, Trace, extend, trace, AllExtractLeast, allowances}
+use Rattle.definitions.specs.Best.{by, lesser, least, Lowest}
+use Rattle.definitions.specs.Intervals.{Interval, interval, Distinct, Rising, countNew}
+use Rattle.definitions.specs.Model.{LeastLeft, parent, available, extract, Model, fresh, intervals, intervals-rise, leastLeft, bestIn, withBest, HasBest, each-has-best, Call, extracts, coded, nothingLeft, judge, step, Trace, extend, trace, AllExtractLeast, allowances}
 use Rattle.definitions.specs.Laws.RunProofs.{runs-length}
 use Rattle.heap_laws.specs.Inequality as inequality
 use Rattle.heap_laws.specs.Neighbours as neighbours
@@ -35,6 +37,7 @@ use Rattle.heap_laws.specs.Counting.{runs-distinct}
 use Rattle.heap_laws.specs.Edits.{before, from}
 use Rattle.heap_laws.specs.Activate as activation
 use Rattle.heap_laws.specs.Extract as extraction
+use Rattle.heap_laws.specs.Bests as bests
 use Rattle.heap_laws.specs.TraceCounts as traces
 use Rattle.heap_laws.specs.AllCalls.{trace-allowed, trace-extractions}
 use Rattle.heap_laws.specs.Agree as agree
@@ -135,6 +138,25 @@ module _ (e : Rectangle) (rows cols : ℕ) (ks : List Call) where
   pub extractions-least : AllExtractLeast e rows cols fresh ks (done .answers)
   extractions-least = trace-extractions e rows cols ks
 
+  -- The best of each interval is the least sum of its columns, with the lowest column that has it; after every list of calls. And the least of these bests
+  -- is the least of all columns that are left, so that an extraction need not look at the columns.
+  pub bests-right : Every (λ v. HasBest e model (withBest e model v)) kept
+  bests-right = each-has-best e cols model
+
+  pub extraction-reads-bests : least (map (bestIn e model) kept) ≡ leastLeft e cols model
+  extraction-reads-bests = bests.least-of-bests e cols model
+
+  -- An activation lowers the least sum to the best of the columns won, if that is less. Where nothing is won it stays.
+  pub activation-lowers : (k : Call) → Activates rows model k → (first end c s : ℕ) → Range (won e (model .activated) (k .row) (k .label)) cols first end
+      → Lowest (available e (more k .model)) first (end - first) c s → bests.SameSum (leastLeft e cols (more k .model)) (lesser (leastLeft e cols model) (by c s))
+  activation-lowers k a first end c s wins best =
+      let q = trace-activate e rows cols ks k a in
+      rw q (bests.activate-lowers e model (k .row) (k .label) cols first end wins c s (rw q at best))
+
+  pub activation-keeps : (k : Call) → Activates rows model k → ((c : ℕ) → c < cols → won e (model .activated) (k .row) (k .label) c ≡ false)
+      → leastLeft e cols (more k .model) ≡ leastLeft e cols model
+  activation-keeps k a lost = rw (trace-activate e rows cols ks k a) (bests.activate-same e model (k .row) (k .label) cols lost)
+
   -- The column is cut out of its interval.
   pub extraction-edits : (c s : ℕ) → c < cols
       → intervals e cols (extract model (by c s)) ≡ before c kept ++ from (suc c) kept
@@ -153,6 +175,11 @@ module _ (e : Rectangle) (rows cols : ℕ) (ks : List Call) where
   -- make up the difference of the lengths; then by induction over the list.
   pub inserted-removed-kept : done .inserted ≡ done .removed + length kept
   inserted-removed-kept = traces.trace-balance e rows cols ks
+
+  -- A call inserts the intervals that were not there with the same parent, first and last column; their bests do not count (document 02, request 3).
+  pub counted-by-columns : (k : Call) → more k .inserted ≡ done .inserted + countNew (intervals e cols (more k .model)) kept
+  unfolding extend
+  counted-by-columns k = rw trace-snoc refl
 
   -- An extraction inserts at most two intervals, the rests of the one that had the column.
   pub extraction-inserts : (k : Call) → k .kind ≡ extracts → more k .inserted ≤ done .inserted + 2

@@ -11,6 +11,7 @@ pub mod Counting
 pub mod Edits
 pub mod Activate
 pub mod Extract
+pub mod Bests
 pub mod TraceCounts
 pub mod AllCalls
 pub mod Agree

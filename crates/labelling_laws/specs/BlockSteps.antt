@@ -19,8 +19,8 @@ use Rattle.definitions.specs.Limits.{maxVertices, maxLength, maxLabel, sum}
 use Rattle.definitions.specs.Lists.{mem, Every}
 use Rattle.definitions.specs.Network.{Rectangle, Walk, stay, then}
 use Rattle.definitions.specs.Blocks.{Block, noBlock}
-use Rattle.definitions.specs.Best.{Best, nobody, by, least, leastFrom}
-use Rattle.definitions.specs.Laws.LeastLaws.{LowestFrom, Found, found-is}
+use Rattle.definitions.specs.Best.{Best, nobody, by, least, leastFrom, Lowest}
+use Rattle.definitions.specs.Laws.LeastLaws.{Found, found-is}
 use Rattle.definitions.specs.Model.{Model, parent, available}
 use Rattle.definitions.specs.Labelling.{BlockState, extraction, freshBlock, apply, leastOf, activateVertex, Settled, settledAt, State, labelOf, settleAs, settle, noBlockState, chosen, placeIn, extractFrom, advance, steps, start}
 use Rattle.definitions.specs.Laws.Members.{every-imp}
@@ -133,12 +133,12 @@ module _ (bs : List Block) (n source : ℕ) where
     pub choice : (st : State) (level i s : ℕ) → Inv st level → chosen st ≡ by i s → Choice st level i s
     unfolding chosen leastOf
     choice st level i s inv q =
-        let top : LowestFrom (λ j. leastOf (blockAt st j)) 0 (length (st .blocks)) i s = rw q at (found-is (λ j. leastOf (blockAt st j)) 0 (length (st .blocks))) in
+        let top : Lowest (λ j. leastOf (blockAt st j)) 0 (length (st .blocks)) i s = rw q at (found-is (λ j. leastOf (blockAt st j)) 0 (length (st .blocks))) in
         let here : BlockState = blockAt st i in
         let c : ℕ = top .holder in
         let e : Rectangle = here .block .lengths in
         let m : Model = here .trace .model in
-        let low : LowestFrom (available e m) 0 (length (here .block .cols)) c s = rw (top .here) at (found-is (available e m) 0 (length (here .block .cols))) in
+        let low : Lowest (available e m) 0 (length (here .block .cols)) c s = rw (top .here) at (found-is (available e m) 0 (length (here .block .cols))) in
         let col-in : c < length (here .block .cols) = omega (arith, low .high) in
         let good : Good n (st .settled) (st .settled) level here = every-at _ (st .blocks) (inv .good) i noBlockState (omega (arith, top .high)) in
         let p : ℕ = low .holder in

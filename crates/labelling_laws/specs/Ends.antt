@@ -15,8 +15,8 @@ use lib.ListN.{length, set}
 use Rattle.definitions.specs.Limits.{maxLabel}
 use Rattle.definitions.specs.Lists.{total, Every}
 use Rattle.definitions.specs.Blocks.{Block}
-use Rattle.definitions.specs.Best.{Best, nobody, by}
-use Rattle.definitions.specs.Laws.LeastLaws.{LowestFrom, found-is}
+use Rattle.definitions.specs.Best.{Best, nobody, by, Lowest}
+use Rattle.definitions.specs.Laws.LeastLaws.{found-is}
 use Rattle.definitions.specs.Labelling.{BlockState, extraction, freshBlock, apply, leastOf, activateVertex, settledAt, State, labelOf, settleAs, settle, noBlockState, chosen, placeIn, extractFrom, advance, steps, start, columns, labelling, reached, extractions, insertions}
 use Rattle.definitions.specs.Laws.Members.{every-imp}
 use Rattle.basics.specs.ListLaws.{every-map, map-same, total-set, total-le, Different}
@@ -37,7 +37,7 @@ settle-extracts v l st = go (labelOf v (st .settled))
 pub step-extracts : (i s : ℕ) (st : State) → chosen st ≡ by i s → extractions (extractFrom (by i s) st) ≡ suc (extractions st)
 unfolding extractFrom chosen extractions
 step-extracts i s st q =
-    let top : LowestFrom (λ j. leastOf (blockAt st j)) 0 (length (st .blocks)) i s = rw q at (found-is (λ j. leastOf (blockAt st j)) 0 (length (st .blocks))) in
+    let top : Lowest (λ j. leastOf (blockAt st j)) 0 (length (st .blocks)) i s = rw q at (found-is (λ j. leastOf (blockAt st j)) 0 (length (st .blocks))) in
     settle-extracts _ s _
     ∙ omega (
       arith,

@@ -14,8 +14,8 @@ use lib.Seq.{getD-set-same, getD-set-other, ext-getD}
 use Rattle.definitions.specs.Limits.{maxLabel, labelPlaces, unreached}
 use Rattle.definitions.specs.Lists.{upFrom, Every}
 use Rattle.definitions.specs.Blocks.{Block}
-use Rattle.definitions.specs.Best.{nobody, by}
-use Rattle.definitions.specs.Laws.LeastLaws.{LowestFrom, Found, found-is}
+use Rattle.definitions.specs.Best.{nobody, by, Lowest}
+use Rattle.definitions.specs.Laws.LeastLaws.{Found, found-is}
 use Rattle.definitions.specs.Model.{available, intervals}
 use Rattle.definitions.specs.Labelling.{BlockState, activation, extraction, freshBlock, apply, leastOf, placeOf, activateAt, activateVertex, settledAt, State, labelOf, settleAs, settle, noBlockState, chosen, placeIn, extractFrom, advance, start, heldLabel, labels}
 use Rattle.logic.specs.Tests.{Equal, equal, differ, equality}
@@ -66,7 +66,7 @@ module _ (s : BlockState) where
   pub least-in : (c l : ℕ) → leastOf s ≡ by c l → c < length (s .block .cols)
   unfolding leastOf
   least-in c l q =
-      let f : LowestFrom (available (s .block .lengths) (s .trace .model)) 0 (length (s .block .cols)) c l
+      let f : Lowest (available (s .block .lengths) (s .trace .model)) 0 (length (s .block .cols)) c l
       = rw q at (found-is (available (s .block .lengths) (s .trace .model)) 0 (length (s .block .cols))) in
       omega (arith, f .high)
 

@@ -19,8 +19,8 @@ use Rattle.definitions.specs.Limits.{maxLength, maxLabel}
 use Rattle.definitions.specs.Lists.{mem, Every}
 use Rattle.definitions.specs.Network.{Rectangle}
 use Rattle.definitions.specs.Blocks.{Block}
-use Rattle.definitions.specs.Best.{Best, nobody, by, lesser, least, leastFrom}
-use Rattle.definitions.specs.Laws.LeastLaws.{LowestFrom, found-is}
+use Rattle.definitions.specs.Best.{Best, nobody, by, lesser, least, leastFrom, Lowest}
+use Rattle.definitions.specs.Laws.LeastLaws.{found-is}
 use Rattle.definitions.specs.Model.{Activation, Model, through, parent, available, isActivated, judge, step, activate, extract, Trace, extend}
 use Rattle.definitions.specs.Labelling.{BlockState, activation, extraction, freshBlock, apply, leastOf, placeOf, activateAt, activateVertex, Settled, settledAt, labelOf}
 use Rattle.logic.specs.Tests.{clash, Truth, holds, fails, truth, Equal, equal, differ, equality}
@@ -150,7 +150,7 @@ module _ (b : Block) (monge : MongeAll (b .lengths) (length (b .rows)) (length (
         few = extend-few e (length (b .rows)) (length (b .cols)) monge t extraction (f .sound) (f .few);
       }
     where
-      found : LowestFrom (available e m) 0 (length (b .cols)) c level
+      found : Lowest (available e m) 0 (length (b .cols)) c level
       found = rw here at (found-is (available e m) 0 (length (b .cols)))
 
       ahead : (j : ℕ) → From level (available e m j) → Equal j c → From level (available e (extract m (by c level)) j)

@@ -1,5 +1,5 @@
 -- The numbers of the blocks: which block of which piece a number means.
---   Fits                                 sizes within bounds, and buffers of their sizes
+--   Fits                                 sizes within bounds, and a buffer of the vertices of its size
 --   size-is size-none sizeOf-is          the size of a piece, by its definitions
 --   blockAt blocks-are                   the blocks of the network, by their placements
 --   first-is                             the number of a piece's first block
@@ -15,7 +15,7 @@ use native.Mathlib.Omega.{arith}
 use borrow.Author.Tests.{lt-ltb, le-ltb, le-leb}
 use lib.ListN.{getD, length, take, length-append, length-map, List·getD-append}
 use lib.Seq.{getD-append-add}
-use Rattle.definitions.specs.Limits.{maxPieces, maxSize, vertexPlaces, lengthPlaces}
+use Rattle.definitions.specs.Limits.{maxPieces, maxSize, vertexPlaces}
 use Rattle.definitions.specs.Lists.{upFrom}
 use Rattle.definitions.specs.Network.{Piece, sizeOf}
 use Rattle.definitions.specs.Blocks.{splits, splitsOf, Window, windows, windowsOf, Block, blockOf, blocksOf, blocks}
@@ -40,17 +40,16 @@ take-each f s (suc d) (suc n) l = rw (take-each f (suc s) d n (omega arith))
 
 -- ---- sizes
 
-pub record Fits (p : ℕ) (sizes vertices lengths : List ℕ) : Type 0 where
+pub record Fits (p : ℕ) (sizes vertices : List ℕ) : Type 0 where
   pub pieces-in : p ≤ maxPieces
   pub small : (d : ℕ) → d < p → getD sizes d 0 ≤ maxSize
   pub vertices-in : length vertices ≡ vertexPlaces
-  pub lengths-in : length lengths ≡ lengthPlaces
 
 abbrev pub noWindow : Window
 noWindow = record { row0 = 0; rows = 0; col0 = 0; cols = 0 }
 
 abbrev pub noPlacement : Placement
-noPlacement = place 0 0 noWindow
+noPlacement = place 0 noWindow
 
 pub size-none : (p : ℕ) (sizes : List ℕ) (d : ℕ) → p ≤ d → sizeAt p sizes d ≡ 0
 unfolding sizeAt
@@ -65,7 +64,7 @@ unfolding blocks
 blocks-append [] rs = refl
 blocks-append (q ∷ qs) rs = rw (blocks-append qs rs) (sym (append-assoc (blocksOf q) (blocks qs) (blocks rs)))
 
-module _ (p : ℕ) (sizes vertices lengths : List ℕ) (fits : Fits p sizes vertices lengths) where
+module _ (p : ℕ) (sizes vertices lengths : List ℕ) (fits : Fits p sizes vertices) where
   pub size-is : (d : ℕ) → d < p → sizeAt p sizes d ≡ getD sizes d 0
   unfolding sizeAt
   size-is d l = rw (lt-ltb d p l, le-leb (getD sizes d 0) maxSize (fits .small d l))
@@ -79,7 +78,7 @@ module _ (p : ℕ) (sizes vertices lengths : List ℕ) (fits : Fits p sizes vert
   unfolding blocks blocksOf piecePlacements
   blocks-piece d l =
       append-nil (blocksOf (pieceAt sizes vertices lengths d))
-      ∙ rw (sizeOf-is d l) (sym (map-map (blockAt sizes vertices lengths) (place d (sizeAt p sizes d)) (windowsOf (sizeAt p sizes d))))
+      ∙ rw (sizeOf-is d l) (sym (map-map (blockAt sizes vertices lengths) (place d) (windowsOf (sizeAt p sizes d))))
 
   blocks-up-to : (d : ℕ) → d ≤ p → blocks (map (pieceAt sizes vertices lengths) (upFrom 0 d)) ≡ map (blockAt sizes vertices lengths) (placementsUpTo p sizes d)
   unfolding upFrom blocks placementsUpTo
@@ -138,18 +137,18 @@ module _ (p : ℕ) (sizes : List ℕ) where
       omega (arith, n, length-upTo p sizes (suc d))
 
   placement-there : (d j : ℕ) (xs rest : List Placement) → j < length (windowsOf (sizeAt p sizes d))
-      → getD ((xs ++ piecePlacements d (sizeAt p sizes d)) ++ rest) (length xs + j) noPlacement ≡ place d (sizeAt p sizes d) (getD (windowsOf (sizeAt p sizes d)) j noWindow)
+      → getD ((xs ++ piecePlacements d (sizeAt p sizes d)) ++ rest) (length xs + j) noPlacement ≡ place d (getD (windowsOf (sizeAt p sizes d)) j noWindow)
   unfolding piecePlacements
   placement-there d j xs rest l =
       let ws = windowsOf (sizeAt p sizes d) in
-      let mine : List Placement = map (place d (sizeAt p sizes d)) ws in
+      let mine : List Placement = map (place d) ws in
       ap (λ (ys : List Placement). getD ys (length xs + j) noPlacement) (append-assoc xs mine rest)
       ∙ getD-append-add xs (mine ++ rest) j noPlacement
-      ∙ List·getD-append mine rest noPlacement j (omega (arith, length-map ws (place d (sizeAt p sizes d))))
-      ∙ map-at (place d (sizeAt p sizes d)) ws j noWindow noPlacement l
+      ∙ List·getD-append mine rest noPlacement j (omega (arith, length-map ws (place d)))
+      ∙ map-at (place d) ws j noWindow noPlacement l
 
   pub placement-at : (d j : ℕ) → d < maxPieces → j < 2 * pred (sizeAt p sizes d)
-      → getD (placementsOf p sizes) (blocksUpTo p sizes d + j) noPlacement ≡ place d (sizeAt p sizes d) (getD (windowsOf (sizeAt p sizes d)) j noWindow)
+      → getD (placementsOf p sizes) (blocksUpTo p sizes d + j) noPlacement ≡ place d (getD (windowsOf (sizeAt p sizes d)) j noWindow)
   unfolding placementsOf placementsUpTo
   placement-at d j l r =
       let e : maxPieces ≡ (maxPieces - suc d) + suc d = omega arith in

@@ -71,21 +71,21 @@ stored-more l mid out b slot next end xs ys p q =
 -- ---- the splits of a piece
 
 module _ (m : ℕ) (small : m ≤ maxSize) where
-  pub split-words : (d : ℕ) (c : Split) → Cut m c → wordsOf (splitPlacements d m c) ≤ splitWords
+  pub split-words : (d : ℕ) (c : Split) → Cut m c → wordsOf (splitPlacements d c) ≤ splitWords
   unfolding wordsOf splitPlacements windows total
   split-words d c h = omega (arith, h .before, h .after, h .inside)
 
   -- the blocks of the first s splits; the next one; all of them
   pub placements-next : (d s : ℕ) → s < pred m
-      → map (place d m) (windows (take (s + 1) (splitsOf m))) ≡ map (place d m) (windows (take s (splitsOf m))) ++ splitPlacements d m (getD (splitsOf m) s noSplit)
+      → map (place d) (windows (take (s + 1) (splitsOf m))) ≡ map (place d) (windows (take s (splitsOf m))) ++ splitPlacements d (getD (splitsOf m) s noSplit)
   unfolding splitPlacements
   placements-next d s l =
-      rw (add-one s, take-suc (splitsOf m) s noSplit (omega (arith, size-count m small)), windows-append) (map-append (place d m) (windows (take s (splitsOf m))) (windows (getD (splitsOf m) s noSplit ∷ [])))
+      rw (add-one s, take-suc (splitsOf m) s noSplit (omega (arith, size-count m small)), windows-append) (map-append (place d) (windows (take s (splitsOf m))) (windows (getD (splitsOf m) s noSplit ∷ [])))
 
-  pub placements-all : (d s : ℕ) → pred m ≤ s → map (place d m) (windows (take s (splitsOf m))) ≡ piecePlacements d m
+  pub placements-all : (d s : ℕ) → pred m ≤ s → map (place d) (windows (take s (splitsOf m))) ≡ piecePlacements d m
   unfolding piecePlacements windowsOf
   placements-all d s l = rw (take-all s (splitsOf m) (omega (arith, size-count m small)))
 
-  pub length-placements : (d s : ℕ) → s ≤ pred m → length (map (place d m) (windows (take s (splitsOf m)))) ≡ 2 * s
+  pub length-placements : (d s : ℕ) → s ≤ pred m → length (map (place d) (windows (take s (splitsOf m)))) ≡ 2 * s
   length-placements d s l =
-      length-map (windows (take s (splitsOf m))) (place d m) ∙ length-windows (take s (splitsOf m)) ∙ rw (length-take-le s (splitsOf m) (omega (arith, size-count m small)))
+      length-map (windows (take s (splitsOf m))) (place d) ∙ length-windows (take s (splitsOf m)) ∙ rw (length-take-le s (splitsOf m) (omega (arith, size-count m small)))

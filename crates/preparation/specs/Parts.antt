@@ -10,28 +10,28 @@ use mathlib.Core.Path.{_≡_, refl, sym, ap, _∙_}
 use mathlib.Core.Bool.{true}
 use mathlib.Core.Logic.{_⊎_, inl, inr, _≢_}
 use mathlib.Core.List.{List, [], _∷_, map}
-use Prim.Native.Nat.{ℕ, zero, suc, pred, _+_, _-_, _*_, _/_, _%_, _≤_, _<_}
+use Prim.Native.Nat.{ℕ, zero, suc, pred, _+_, _-_, _*_, _≤_, _<_}
 use native.Mathlib.Nat.{le-refl}
 use native.Mathlib.Omega.{arith}
-use borrow.Author.Tests.{le-leb, leb-true}
+use borrow.Author.Tests.{leb-true}
 use lib.Dec.{leb}
 use lib.ListN.{getD, length, take, drop, length-map, List·getD-append}
-use lib.Seq.{getD-append-add, take-suc, take-add, take-length, drop-drop}
+use lib.Seq.{getD-append-add, take-suc, take-add, take-length, drop-drop, getD-drop}
 use Rattle.definitions.specs.Limits.{maxPieces, maxSize, vertexPlaces, rowPlaces, tablePlaces}
 use Rattle.definitions.specs.Lists.{all, every, total, upFrom, padded, Every}
-use Rattle.definitions.specs.Network.{noPiece}
+use Rattle.definitions.specs.Network.{entry, noPiece}
 use Rattle.definitions.specs.Blocks.{splits, splitsOf, windows, windowsOf, noBlock, blockOf, blocks}
 use Rattle.definitions.specs.Judgement.{pieceAt, piecesOf}
 use Rattle.definitions.specs.Laws.Members.{every-is, all-at}
 use Rattle.logic.specs.Tests.{split-at}
 use Rattle.basics.specs.ListLaws.{every-at, length-padded}
 use Rattle.splits.specs.Windows.{Inside, windows-inside}
-use Rattle.monge.specs.Copies.{block-entry}
-use Rattle.monge.specs.Matrix.{at, reversedRow, reversed, rowsIn}
+use Rattle.monge.specs.Copies.{entry-in}
+use Rattle.monge.specs.Matrix.{at, rowsIn}
 use Rattle.basics.specs.Sequences.{getD-each, length-upFrom, map-at}
-use Rattle.basics.specs.PiecePlaces.{block-rows, block-cols, row-vertex, col-vertex}
+use Rattle.basics.specs.PiecePlaces.{block-rows, block-cols, row-vertex, col-vertex, entry-at}
 use Rattle.definitions.specs.HeapWords.{heapWords}
-use Rattle.preparation.specs.Prepared.{sizeAt, matrixRow, matrixOf, Placement, place, placementsOf, words, wordsOf, rowOf, colOf, lastOf, numbers, numbersFrom, partNumbers, partPlaces, pieceWords, maxWords, partsOf, slotIn, rowIn, colIn, colsIn, lastIn, rowCountIn, blocksUpTo}
+use Rattle.preparation.specs.Prepared.{sizeAt, matrixEntry, matrixRow, matrixOf, Placement, place, placementsOf, words, wordsOf, rowOf, colOf, lastOf, numbers, numbersFrom, partNumbers, partPlaces, pieceWords, maxWords, partsOf, slotIn, rowIn, colIn, colsIn, lastIn, rowCountIn, blocksUpTo}
 use Rattle.preparation.specs.Numbers.{length-numbers, words-append}
 use Rattle.preparation.specs.Placements.{size-small, length-upTo, blocks-few, length-windowsOf, words-few}
 use Rattle.preparation.specs.Numbering.{Fits, noWindow, noPlacement, size-is, blockAt, blocks-are, number-in, placement-at, numbered}
@@ -101,9 +101,14 @@ unfolding partsOf placementsOf
 parts-long p sizes =
     length-padded partPlaces 0 (numbersFrom 0 (placementsOf p sizes)) (omega (arith, length-numbers 0 (placementsOf p sizes), length-upTo p sizes maxPieces, blocks-few p sizes maxPieces))
 
-pub matrix-long : (p : ℕ) (sizes lengths : List ℕ) → length (matrixOf p sizes lengths) ≡ vertexPlaces
+pub matrix-long : (lengths : List ℕ) → length (matrixOf lengths) ≡ vertexPlaces
 unfolding matrixOf
-matrix-long p sizes lengths = length-map (upFrom 0 vertexPlaces) (matrixRow p sizes lengths) ∙ length-upFrom 0 vertexPlaces
+matrix-long lengths = length-map (upFrom 0 vertexPlaces) (matrixRow lengths) ∙ length-upFrom 0 vertexPlaces
+
+-- an entry of the matrix
+matrix-at : (lengths : List ℕ) (r k : ℕ) → r < vertexPlaces → k < rowPlaces → at (matrixOf lengths) r k ≡ matrixEntry lengths r k
+unfolding matrixOf matrixRow
+matrix-at lengths r k l h = rw (getD-each (matrixRow lengths) vertexPlaces r [] l) (getD-each (matrixEntry lengths r) rowPlaces k 0 h)
 
 -- every block has a column
 wide-tested : all (λ m. every (λ w. leb 1 (w .cols)) (windowsOf m)) (suc maxSize) ≡ true
@@ -157,11 +162,10 @@ module _ (p : ℕ) (sizes : List ℕ) where
 
   -- ---- a block's placement
 
-  -- a piece of the network, its size, and places of that piece
+  -- a piece of the network, and places of that piece
   pub record Placed (x : Placement) : Type 0 where
     pub piece-in : x .piece < p
-    pub size-same : x .size ≡ sizeAt p sizes (x .piece)
-    pub inside : Inside (x .size) (x .window)
+    pub inside : Inside (sizeAt p sizes (x .piece)) (x .window)
     pub some : 1 ≤ x .window .cols
 
   pub placed : p ≤ maxPieces → (b : ℕ) → b < length (placementsOf p sizes) → Placed (getD (placementsOf p sizes) b noPlacement)
@@ -169,18 +173,17 @@ module _ (p : ℕ) (sizes : List ℕ) where
       let n = numbered p sizes b l in
       let m = sizeAt p sizes (n .piece) in
       let small = size-small p sizes (n .piece) in
-      let e : getD (placementsOf p sizes) b noPlacement ≡ place (n .piece) m (getD (windowsOf m) (n .window) noWindow)
+      let e : getD (placementsOf p sizes) b noPlacement ≡ place (n .piece) (getD (windowsOf m) (n .window) noWindow)
       = ap (λ (c : ℕ). getD (placementsOf p sizes) c noPlacement) (n .number) ∙ placement-at p sizes (n .piece) (n .window) (omega (arith, n .piece-in)) (n .window-in) in
       rw e (record {
         piece-in = n .piece-in;
-        size-same = refl;
         inside = every-at (Inside m) (windowsOf m) (windows-inside m small) (n .window) noWindow (omega (arith, length-windowsOf m small, n .window-in));
         some = every-at (λ w. 1 ≤ w .cols) (windowsOf m) (windows-wide m small) (n .window) noWindow (omega (arith, length-windowsOf m small, n .window-in));
       })
 
 -- ---- the blocks of the network
 
-module _ (p : ℕ) (sizes vertices lengths : List ℕ) (fits : Fits p sizes vertices lengths) where
+module _ (p : ℕ) (sizes vertices lengths : List ℕ) (fits : Fits p sizes vertices) where
   pub block-count : length (blocks (piecesOf p sizes vertices lengths)) ≡ length (placementsOf p sizes)
   block-count = rw (blocks-are p sizes vertices lengths fits) (length-map (placementsOf p sizes) (blockAt sizes vertices lengths))
 
@@ -198,41 +201,35 @@ module _ (p : ℕ) (sizes vertices lengths : List ℕ) (fits : Fits p sizes vert
 
   -- ---- entries
 
-  -- the table of a piece, as the copy reads it
+  -- the table of a piece
   table-is : (d : ℕ) → d < p → pieceAt sizes vertices lengths d .rows ≡ rowsIn (sizeAt p sizes d) (drop (tablePlaces * d) lengths)
   unfolding pieceAt rowsIn
   table-is d l = rw (size-is p sizes vertices lengths fits d l) (simp drop-drop)
 
-  row-of : (d i : ℕ) → d < p → i < rowPlaces → getD (matrixOf p sizes lengths) (rowPlaces * d + i) [] ≡ reversedRow (sizeAt p sizes d) (drop (tablePlaces * d) lengths) i
-  unfolding matrixOf matrixRow
-  row-of d i l r =
-      let e : (rowPlaces * d + i) / rowPlaces ≡ d = omega arith in
-      let f : (rowPlaces * d + i) % rowPlaces ≡ i = omega arith in
-      let n : rowPlaces * (rowPlaces * d + i) + rowPlaces ≤ length lengths = omega (arith, fits .pieces-in, fits .lengths-in) in
-      getD-each (matrixRow p sizes lengths) vertexPlaces (rowPlaces * d + i) [] (omega (arith, fits .pieces-in))
-      ∙ rw (le-leb (rowPlaces * (rowPlaces * d + i) + rowPlaces) (length lengths) n, e, f)
+  -- the length from place i to place j of a piece
+  length-at : (d i j : ℕ) → d < p → i < sizeAt p sizes d → j < sizeAt p sizes d
+      → entry (pieceAt sizes vertices lengths d) i j ≡ getD lengths (rowPlaces * (rowPlaces * d + i) + j) 0
+  unfolding entry
+  length-at d i j l r h =
+      let e : tablePlaces * d + (rowPlaces * i + j) ≡ rowPlaces * (rowPlaces * d + i) + j = omega arith in
+      rw (table-is d l) (entry-in (sizeAt p sizes d) (drop (tablePlaces * d) lengths) i j r h ∙ getD-drop (tablePlaces * d) lengths (rowPlaces * i + j) 0 ∙ rw e)
 
   module _ (x : Placement) (h : Placed p sizes x) where
-    size-few : x .size ≤ maxSize
-    size-few = rw (h .size-same) (size-small p sizes (x .piece))
+    size-few : sizeAt p sizes (x .piece) ≤ maxSize
+    size-few = size-small p sizes (x .piece)
 
-    vertex-placed : (j : ℕ) → j < x .size → getD (pieceAt sizes vertices lengths (x .piece) .vertices) j 0 ≡ getD vertices (rowPlaces * x .piece + j) 0
-    vertex-placed j l = vertex-at p sizes vertices lengths fits (x .piece) (h .piece-in) j (omega (arith, h .size-same))
+    vertex-placed : (j : ℕ) → j < sizeAt p sizes (x .piece) → getD (pieceAt sizes vertices lengths (x .piece) .vertices) j 0 ≡ getD vertices (rowPlaces * x .piece + j) 0
+    vertex-placed = vertex-at p sizes vertices lengths fits (x .piece) (h .piece-in)
 
     entry-placed : (i k : ℕ) → i < x .window .rows → k < x .window .cols
-        → blockAt sizes vertices lengths x .lengths i k ≡ at (matrixOf p sizes lengths) (rowOf x + i) (colOf x + k)
-    unfolding reversed
+        → blockAt sizes vertices lengths x .lengths i k ≡ at (matrixOf lengths) (rowOf x + i) (colOf x + k)
     entry-placed i k l r =
-        let m = x .size in
-        let table = drop (tablePlaces * x .piece) lengths in
         let w = x .window in
-        let n : w .row0 + i < maxSize = omega (arith, size-few, h .inside .rows-in) in
-        let e : rowOf x + i ≡ rowPlaces * x .piece + (w .row0 + i) = omega arith in
-        let same : pieceAt sizes vertices lengths (x .piece) .rows ≡ rowsIn m table = rw (h .size-same) (table-is (x .piece) (h .piece-in)) in
-        let row : reversedRow m table (w .row0 + i) ≡ getD (matrixOf p sizes lengths) (rowOf x + i) []
-        = rw (e, h .size-same) (sym (row-of (x .piece) (w .row0 + i) (h .piece-in) n)) in
-        block-entry m table (pieceAt sizes vertices lengths (x .piece)) same size-few w (h .inside .rows-in) (h .inside .cols-in) i k l r
-        ∙ ap (λ (row : List ℕ). getD row (colOf x + k) 0) (getD-each (reversedRow m table) maxSize (w .row0 + i) [] n ∙ row)
+        let j = w .col0 + (w .cols - 1 - k) in
+        let e : rowPlaces * (rowPlaces * x .piece + (w .row0 + i)) + j ≡ rowPlaces * (rowOf x + i) + (rowPlaces - 1 - (colOf x + k)) = omega (arith, h .inside .cols-in, size-few) in
+        entry-at (pieceAt sizes vertices lengths (x .piece)) w i k l r
+        ∙ length-at (x .piece) (w .row0 + i) j (h .piece-in) (omega (arith, h .inside .rows-in)) (omega (arith, h .inside .cols-in))
+        ∙ rw e (sym (matrix-at lengths (rowOf x + i) (colOf x + k) (omega (arith, h .inside .rows-in, size-few, h .piece-in, fits .pieces-in)) (omega (arith, h .inside .cols-in, size-few))))
 
     row-placed : (i : ℕ) → i < x .window .rows → getD (blockAt sizes vertices lengths x .rows) i 0 ≡ getD vertices (rowOf x + i) 0
     row-placed i r =
@@ -280,7 +277,7 @@ module _ (p : ℕ) (sizes vertices lengths : List ℕ) (fits : Fits p sizes vert
         rw (cols-is p sizes b l, rowCount-is p sizes b l) (h .some, omega (arith, h .inside .rows-in, size-few x h))
 
     pub entry-is : (i k : ℕ) → i < length (getD (blocks (piecesOf p sizes vertices lengths)) b noBlock .rows) → k < colsIn (partsOf p sizes) b
-        → getD (blocks (piecesOf p sizes vertices lengths)) b noBlock .lengths i k ≡ at (matrixOf p sizes lengths) (rowIn (partsOf p sizes) b + i) (colIn (partsOf p sizes) b + k)
+        → getD (blocks (piecesOf p sizes vertices lengths)) b noBlock .lengths i k ≡ at (matrixOf lengths) (rowIn (partsOf p sizes) b + i) (colIn (partsOf p sizes) b + k)
     entry-is i k r s =
         let x = getD (placementsOf p sizes) b noPlacement in
         let h = placed p sizes (fits .pieces-in) b l in

@@ -1,169 +1,174 @@
--- What stands at the place of a vertex and a piece.
---   places-long                  how many places there are
---   held places-hold             the last place of a vertex in a piece
---   place-found found-place      with different vertices: the place of the vertex, and nothing else
-use mathlib.Core.Path.{_≡_, refl, sym, ap, _∙_}
-use mathlib.Core.Bool.{cond}
-use mathlib.Core.Logic.{_⊎_, inl, inr, _≢_}
+-- The places of each vertex, linked: what stands at a vertex and at a place.
+--   StandsAt                         a vertex stands at a place of all pieces
+--   Next                             a word that names the first place of a vertex from some place on
+--   Linked stored all-linked         all words do
+--   places-long                      how many words there are
+--   vertex-at                        the vertex of a place, in its piece
+use mathlib.Core.Path.{_≡_, refl, sym, _∙_}
+use mathlib.Core.Bool.{cond, true, false}
+use mathlib.Core.Logic.{⊎-elim, _≢_}
 use mathlib.Core.List.{List}
-use Prim.Native.Nat.{ℕ, zero, suc, _+_, _-_, _*_, _≤_, _<_}
-use native.Mathlib.Nat.{le-refl}
+use Prim.Native.Nat.{ℕ, zero, suc, _+_, _-_, _*_, _/_, _≤_, _<_}
 use native.Mathlib.Omega.{arith}
 use borrow.Author.Tests.{le-leb, leb-true}
-use lib.Dec.{eqb, leb}
-use lib.ListN.{getD, length, set, drop, length-set, length-replicate, getD-replicate}
+use lib.Dec.{leb}
+use lib.ListN.{getD, length, set, drop, replicate, length-set, length-replicate, getD-replicate}
 use lib.Seq.{getD-set-same, getD-set-other, getD-take, getD-drop}
-use Rattle.definitions.specs.Limits.{maxVertices, maxPieces, rowPlaces}
+use Rattle.definitions.specs.Limits.{maxVertices, maxPieces, rowPlaces, vertexPlaces}
 use Rattle.definitions.specs.Lists.{within}
-use Rattle.definitions.specs.Network.{sizeOf}
 use Rattle.definitions.specs.Judgement.{pieceAt}
-use Rattle.logic.specs.Tests.{and-left, below-suc, Truth, holds, fails, truth, Equal, equal, differ, equality}
-use Rattle.basics.specs.ListLaws.{Different}
-use Rattle.basics.specs.ListPlaces.{different-at}
-use Rattle.preparation.specs.Prepared.{sizeAt, placeCount, placeNumber, storePlace, storePlaces, placesUpTo, placesOf}
-use Rattle.preparation.specs.Numbering.{Fits, size-is, sizeOf-is}
-
--- ---- one store
-
-module _ (e i u : ℕ) (xs : List ℕ) where
-  length-place : length (storePlace e i u xs) ≡ length xs
-  unfolding storePlace
-  length-place = go (truth (within maxVertices u))
-    where
-      go : Truth (within maxVertices u) → length (cond (within maxVertices u) (set xs (placeNumber u e) (suc i)) xs) ≡ length xs
-      go (holds t) = rw t (length-set xs (placeNumber u e) (suc i))
-      go (fails t) = rw t
-
-  -- another vertex, or another piece
-  place-other : (n : ℕ) → (1 ≤ u → n ≢ placeNumber u e) → getD (storePlace e i u xs) n 0 ≡ getD xs n 0
-  unfolding storePlace within
-  place-other n q = go (truth (within maxVertices u))
-    where
-      go : Truth (within maxVertices u) → getD (cond (within maxVertices u) (set xs (placeNumber u e) (suc i)) xs) n 0 ≡ getD xs n 0
-      go (holds t) = rw t (getD-set-other xs (placeNumber u e) n (suc i) 0 (q (leb-true 1 u (and-left (leb 1 u) (leb u maxVertices) t))))
-      go (fails t) = rw t
-
-place-same : (d i v : ℕ) (xs : List ℕ) → 1 ≤ v → v ≤ maxVertices → placeNumber v d < length xs → getD (storePlace d i v xs) (placeNumber v d) 0 ≡ suc i
-unfolding storePlace within
-place-same d i v xs low high l = rw (le-leb 1 v low, le-leb v maxVertices high) (getD-set-same xs (placeNumber v d) (suc i) 0 l)
-
--- ---- all stores
-
--- 1 + the last of the first n places of piece d at which v stands, or 0
-unfoldable pub held : List ℕ → ℕ → ℕ → ℕ → ℕ
-held vertices d v zero = 0
-held vertices d v (suc i) = cond (eqb v (getD vertices (rowPlaces * d + i) 0)) (suc i) (held vertices d v i)
+use Rattle.logic.specs.Tests.{clash, split-at, and-left, and-right, Truth, holds, fails, truth, Equal, equal, differ, equality}
+use Rattle.preparation.specs.Prepared.{sizeAt, placeCount, storePlace, storePlaces, placesFrom, placesOf}
+use Rattle.preparation.specs.Placements.{size-small}
+use Rattle.preparation.specs.Numbering.{Fits, size-is}
 
 module _ (p : ℕ) (sizes vertices : List ℕ) where
-  length-places : (e n : ℕ) (xs : List ℕ) → length (storePlaces vertices e xs n) ≡ length xs
-  unfolding storePlaces
-  length-places e zero xs = refl
-  length-places e (suc n) xs = length-place e n (getD vertices (rowPlaces * e + n) 0) (storePlaces vertices e xs n) ∙ length-places e n xs
+  -- place x of all pieces is a place of its piece, and v stands there
+  pub record StandsAt (v x : ℕ) : Type 0 where
+    pub inside : x < vertexPlaces
+    pub used : x - rowPlaces * (x / rowPlaces) < sizeAt p sizes (x / rowPlaces)
+    pub vertex : getD vertices x 0 ≡ v
 
-  length-upTo : (e : ℕ) → length (placesUpTo p sizes vertices e) ≡ placeCount
-  unfolding placesUpTo
-  length-upTo zero = length-replicate {A = ℕ} placeCount 0
-  length-upTo (suc e) = length-places e (sizeAt p sizes e) (placesUpTo p sizes vertices e) ∙ length-upTo e
+  -- a word is 1 + the first place of v from the place `from` on, or 0 if there is none
+  pub record Next (v from word : ℕ) : Type 0 where
+    pub there : (x : ℕ) → word ≡ suc x → (from ≤ x) × StandsAt v x
+    pub least : (y : ℕ) → from ≤ y → StandsAt v y → (1 ≤ word) × (word ≤ suc y)
+
+  -- the places from the place `from` on are linked
+  pub record Linked (xs : List ℕ) (from : ℕ) : Type 0 where
+    pub long : length xs ≡ placeCount
+    pub starts : (v : ℕ) → 1 ≤ v → v ≤ maxVertices → Next v from (getD xs (v - 1) 0)
+    pub nexts : (v x : ℕ) → 1 ≤ v → v ≤ maxVertices → from ≤ x → StandsAt v x → Next v (suc x) (getD xs (maxVertices + x) 0)
+
+  -- ---- places at which no vertex stands
+
+  earlier-next : (v n m word : ℕ) → m ≤ n → ((y : ℕ) → m ≤ y → y < n → StandsAt v y → ⊥) → Next v n word → Next v m word
+  earlier-next v n m word l none h = record {
+    there = λ x e. let r = h .there x e in (omega (arith, r .0), r .1);
+    least = λ y a s. ⊎-elim (λ (b : y < n). absurd (none y a b s)) (λ (b : n ≤ y). h .least y b s) (split-at y n);
+  }
+
+  earlier : (xs : List ℕ) (n m : ℕ) → m ≤ n → ((v y : ℕ) → 1 ≤ v → v ≤ maxVertices → m ≤ y → y < n → StandsAt v y → ⊥) → Linked xs n → Linked xs m
+  earlier xs n m l none h = record {
+    long = h .long;
+    starts = λ v a b. earlier-next v n m (getD xs (v - 1) 0) l (λ y. none v y a b) (h .starts v a b);
+    nexts = λ v x a b r s. ⊎-elim (λ (c : x < n). absurd (none v x a b r c s)) (λ (c : n ≤ x). h .nexts v x a b c s) (split-at x n);
+  }
+
+  -- ---- one store
+
+  module _ (xs : List ℕ) (x : ℕ) (inside : x < vertexPlaces) (used : x - rowPlaces * (x / rowPlaces) < sizeAt p sizes (x / rowPlaces)) (h : Linked xs (suc x)) where
+    abbrev u : ℕ
+    u = getD vertices x 0
+
+    abbrev ys : List ℕ
+    ys = set (set xs (maxVertices + x) (getD xs (getD vertices x 0 - 1) 0)) (getD vertices x 0 - 1) (suc x)
+
+    bounds : (v : ℕ) → 1 ≤ v → v ≤ maxVertices → within maxVertices v ≡ true
+    unfolding within
+    bounds v a b = simp (le-leb 1 v a, le-leb v maxVertices b)
+
+    -- the vertex at x is out of bounds
+    module _ (t : within maxVertices (getD vertices x 0) ≡ false) where
+      nobody : (v y : ℕ) → 1 ≤ v → v ≤ maxVertices → x ≤ y → y < suc x → StandsAt v y → ⊥
+      nobody v y a b r s g =
+          let e : y ≡ x = omega arith in
+          let w : getD vertices x 0 ≡ v = rw e at (g .vertex) in
+          clash (bounds v a b) (rw w at t)
+
+      left-out : Linked xs x
+      left-out = earlier xs (suc x) x (omega arith) nobody h
+
+    module _ (low : 1 ≤ getD vertices x 0) (high : getD vertices x 0 ≤ maxVertices) where
+      others : (n : ℕ) → n ≢ maxVertices + x → n ≢ getD vertices x 0 - 1 → getD ys n 0 ≡ getD xs n 0
+      others n q r = getD-set-other (set xs (maxVertices + x) (getD xs (u - 1) 0)) (u - 1) n (suc x) 0 r ∙ getD-set-other xs (maxVertices + x) n (getD xs (u - 1) 0) 0 q
+
+      own-start : getD ys (getD vertices x 0 - 1) 0 ≡ suc x
+      own-start = getD-set-same (set xs (maxVertices + x) (getD xs (u - 1) 0)) (u - 1) (suc x) 0 (rw (length-set xs (maxVertices + x) (getD xs (u - 1) 0), h .long) (omega arith))
+
+      own-next : getD ys (maxVertices + x) 0 ≡ getD xs (getD vertices x 0 - 1) 0
+      own-next =
+          getD-set-other (set xs (maxVertices + x) (getD xs (u - 1) 0)) (u - 1) (maxVertices + x) (suc x) 0 (λ e. omega arith)
+          ∙ getD-set-same xs (maxVertices + x) (getD xs (u - 1) 0) 0 (omega (arith, h .long))
+
+      begins : (v : ℕ) → 1 ≤ v → v ≤ maxVertices → Next v x (getD ys (v - 1) 0)
+      begins v a b = go (equality v u)
+        where
+          go : Equal v (getD vertices x 0) → Next v x (getD ys (v - 1) 0)
+          go (equal t e) = rw (e, own-start) (record {
+            there = λ y f. let g : y ≡ x = omega arith in (omega arith, rw g (record { inside = inside; used = used; vertex = refl }));
+            least = λ y r s. (omega arith, omega arith);
+          })
+          go (differ t q) = rw (others (v - 1) (λ e. omega arith) (λ e. q (omega arith))) (earlier-next v (suc x) x (getD xs (v - 1) 0) (omega arith)
+              (λ y r s g. let e : y ≡ x = omega arith in absurd (q (sym (rw e at (g .vertex))))) (h .starts v a b))
+
+      follows : (v y : ℕ) → 1 ≤ v → v ≤ maxVertices → x ≤ y → StandsAt v y → Next v (suc y) (getD ys (maxVertices + y) 0)
+      follows v y a b r s = go (equality y x)
+        where
+          go : Equal y x → Next v (suc y) (getD ys (maxVertices + y) 0)
+          go (equal t e) = let w : getD vertices x 0 ≡ v = rw e at (s .vertex) in rw (e, own-next, w) (h .starts v a b)
+          go (differ t q) = rw (others (maxVertices + y) (λ e. q (omega arith)) (λ e. omega arith)) (h .nexts v y a b (omega arith) s)
+
+      put-in : Linked ys x
+      put-in = record {
+        long = length-set (set xs (maxVertices + x) (getD xs (u - 1) 0)) (u - 1) (suc x) ∙ length-set xs (maxVertices + x) (getD xs (u - 1) 0) ∙ h .long;
+        starts = begins;
+        nexts = follows;
+      }
+
+    stored : Linked (storePlace x (getD vertices x 0) xs) x
+    unfolding storePlace within
+    stored = go (truth (within maxVertices u))
+      where
+        go : Truth (within maxVertices (getD vertices x 0)) → Linked (cond (within maxVertices (getD vertices x 0)) ys xs) x
+        go (holds t) = rw t (put-in (leb-true 1 u (and-left (leb 1 u) (leb u maxVertices) t)) (leb-true u maxVertices (and-right (leb 1 u) (leb u maxVertices) t)))
+        go (fails t) = rw t (left-out t)
+
+  -- ---- all stores
+
+  none-linked : Linked (replicate placeCount 0) vertexPlaces
+  none-linked = record {
+    long = length-replicate {A = ℕ} placeCount 0;
+    starts = λ v a b. rw (getD-replicate {A = ℕ} placeCount (v - 1) 0 0 (omega arith)) (record { there = λ x e. absurd (omega arith); least = λ y r s. absurd (omega (arith, s .inside)) });
+    nexts = λ v x a b r s. absurd (omega (arith, s .inside));
+  }
+
+  piece-linked : (d : ℕ) → d < maxPieces → (xs : List ℕ) → Linked xs (rowPlaces * d + sizeAt p sizes d) → (k : ℕ) → k ≤ sizeAt p sizes d
+      → Linked (storePlaces vertices d (sizeAt p sizes d) xs k) (rowPlaces * d + (sizeAt p sizes d - k))
+  unfolding storePlaces
+  piece-linked d l xs h zero r = let e : sizeAt p sizes d - 0 ≡ sizeAt p sizes d = omega arith in rw e h
+  piece-linked d l xs h (suc k) r =
+      let m = sizeAt p sizes d in
+      let small = size-small p sizes d in
+      let e : rowPlaces * d + (m - suc k) ≡ rowPlaces * d + (m - 1 - k) = omega arith in
+      let f : suc (rowPlaces * d + (m - 1 - k)) ≡ rowPlaces * d + (m - k) = omega arith in
+      let g : (rowPlaces * d + (m - 1 - k)) / rowPlaces ≡ d = omega arith in
+      rw e (stored (storePlaces vertices d m xs k) (rowPlaces * d + (m - 1 - k)) (omega arith) (rw g (omega arith)) (rw f (piece-linked d l xs h k (omega arith))))
+
+  linked-from : (k : ℕ) → k ≤ maxPieces → Linked (placesFrom p sizes vertices k) (rowPlaces * (maxPieces - k))
+  unfolding placesFrom
+  linked-from zero r = none-linked
+  linked-from (suc k) r =
+      let d : ℕ = maxPieces - 1 - k in
+      let m = sizeAt p sizes d in
+      let small = size-small p sizes d in
+      let e : rowPlaces * d + (m - m) ≡ rowPlaces * (maxPieces - suc k) = omega arith in
+      rw (← e) (piece-linked d (omega arith) (placesFrom p sizes vertices k)
+      (earlier (placesFrom p sizes vertices k) (rowPlaces * (maxPieces - k)) (rowPlaces * d + m) (omega arith)
+      (λ v y a b s t g. let f : y / rowPlaces ≡ d = omega arith in absurd (omega (arith, rw f at (g .used))))
+      (linked-from k (omega arith))) m (omega arith))
+
+  pub all-linked : Linked (placesOf p sizes vertices) 0
+  unfolding placesOf
+  all-linked = linked-from maxPieces (omega arith)
 
   pub places-long : length (placesOf p sizes vertices) ≡ placeCount
-  unfolding placesOf
-  places-long = length-upTo maxPieces
-
-  module _ (v d : ℕ) (low : 1 ≤ v) (high : v ≤ maxVertices) (l : d < maxPieces) where
-    -- a piece's own stores
-    own : (n : ℕ) (xs : List ℕ) → length xs ≡ placeCount → getD xs (placeNumber v d) 0 ≡ 0 → getD (storePlaces vertices d xs n) (placeNumber v d) 0 ≡ held vertices d v n
-    unfolding storePlaces held
-    own zero xs h z = z
-    own (suc n) xs h z = go (equality v u) (own n xs h z)
-      where
-        u : ℕ
-        u = getD vertices (rowPlaces * d + n) 0
-
-        go : Equal v u → getD (storePlaces vertices d xs n) (placeNumber v d) 0 ≡ held vertices d v n
-            → getD (storePlace d n u (storePlaces vertices d xs n)) (placeNumber v d) 0 ≡ cond (eqb v u) (suc n) (held vertices d v n)
-        go (equal t q) ih = rw (t, ← q) (place-same d n v (storePlaces vertices d xs n) low high (omega (arith, length-places d n xs)))
-        go (differ t q) ih = rw t (place-other d n u (storePlaces vertices d xs n) (placeNumber v d) (λ r. omega arith) ∙ ih)
-
-    -- those of another piece
-    others : (e n : ℕ) (xs : List ℕ) → e < maxPieces → e ≢ d → getD (storePlaces vertices e xs n) (placeNumber v d) 0 ≡ getD xs (placeNumber v d) 0
-    unfolding storePlaces
-    others e zero xs r q = refl
-    others e (suc n) xs r q =
-        place-other e n (getD vertices (rowPlaces * e + n) 0) (storePlaces vertices e xs n) (placeNumber v d) (λ s. omega arith) ∙ others e n xs r q
-
-    -- the pieces before d, and those after it
-    before : (e : ℕ) → e ≤ d → getD (placesUpTo p sizes vertices e) (placeNumber v d) 0 ≡ 0
-    unfolding placesUpTo
-    before zero r = getD-replicate {A = ℕ} placeCount (placeNumber v d) 0 0 (omega arith)
-    before (suc e) r = others e (sizeAt p sizes e) (placesUpTo p sizes vertices e) (omega arith) (omega arith) ∙ before e (omega arith)
-
-    after : (k : ℕ) → suc d + k ≤ maxPieces → getD (placesUpTo p sizes vertices (suc d + k)) (placeNumber v d) 0 ≡ getD (placesUpTo p sizes vertices (suc d)) (placeNumber v d) 0
-    unfolding placesUpTo
-    after zero r = let e : suc d + 0 ≡ suc d = omega arith in rw e
-    after (suc k) r =
-        let e : suc d + suc k ≡ suc (suc d + k) = omega arith in
-        rw e (others (suc d + k) (sizeAt p sizes (suc d + k)) (placesUpTo p sizes vertices (suc d + k)) (omega arith) (omega arith) ∙ after k (omega arith))
-
-    pub places-hold : getD (placesOf p sizes vertices) (placeNumber v d) 0 ≡ held vertices d v (sizeAt p sizes d)
-    unfolding placesOf placesUpTo
-    places-hold =
-        let e : maxPieces ≡ suc d + (maxPieces - suc d) = omega arith in
-        ap (λ (n : ℕ). getD (placesUpTo p sizes vertices n) (placeNumber v d) 0) e
-        ∙ after (maxPieces - suc d) (omega arith)
-        ∙ own (sizeAt p sizes d) (placesUpTo p sizes vertices d) (length-upTo d) (before d (le-refl d))
-
--- ---- a place that is held
-
-module _ (vertices : List ℕ) (d v : ℕ) where
-  held-at : (n i : ℕ) → held vertices d v n ≡ suc i → (i < n) × (getD vertices (rowPlaces * d + i) 0 ≡ v)
-  unfolding held
-  held-at zero i h = absurd (omega arith)
-  held-at (suc n) i h = go (equality v u) (λ k. held-at n i k) h
-    where
-      u : ℕ
-      u = getD vertices (rowPlaces * d + n) 0
-
-      go : Equal v u → (held vertices d v n ≡ suc i → (i < n) × (getD vertices (rowPlaces * d + i) 0 ≡ v)) → cond (eqb v u) (suc n) (held vertices d v n) ≡ suc i
-          → (i < suc n) × (getD vertices (rowPlaces * d + i) 0 ≡ v)
-      go (equal t q) ih k = let e : i ≡ n = omega (arith, rw t at k) in (omega arith, rw e (sym q))
-      go (differ t q) ih k = let r = ih (rw t at k) in (omega (arith, r .0), r .1)
-
-  at-held : (n i : ℕ) → i < n → getD vertices (rowPlaces * d + i) 0 ≡ v → ((j : ℕ) → j < n → getD vertices (rowPlaces * d + j) 0 ≡ v → j ≡ i) → held vertices d v n ≡ suc i
-  unfolding held
-  at-held zero i l h f = absurd (omega arith)
-  at-held (suc n) i l h f = go (equality v u) (λ r. at-held n i r h (λ j s. f j (omega arith)))
-    where
-      u : ℕ
-      u = getD vertices (rowPlaces * d + n) 0
-
-      go : Equal v u → (i < n → held vertices d v n ≡ suc i) → cond (eqb v u) (suc n) (held vertices d v n) ≡ suc i
-      go (equal t q) ih = rw t (ap suc (f n (omega arith) (sym q)))
-      go (differ t q) ih = rw t (ih (later (below-suc i n l)))
-        where
-          later : (i < n) ⊎ (i ≡ n) → i < n
-          later (inl r) = r
-          later (inr e) = absurd (q (sym (rw (← e) h)))
+  places-long = all-linked .long
 
 -- ---- the places of a piece
 
-module _ (p : ℕ) (sizes vertices lengths : List ℕ) (fits : Fits p sizes vertices lengths) (d : ℕ) (l : d < p) where
+module _ (p : ℕ) (sizes vertices lengths : List ℕ) (fits : Fits p sizes vertices) (d : ℕ) (l : d < p) where
   pub vertex-at : (i : ℕ) → i < sizeAt p sizes d → getD (pieceAt sizes vertices lengths d .vertices) i 0 ≡ getD vertices (rowPlaces * d + i) 0
   unfolding pieceAt
   vertex-at i r =
       getD-take (getD sizes d 0) (drop (rowPlaces * d) vertices) i 0 (omega (arith, size-is p sizes vertices lengths fits d l)) ∙ getD-drop (rowPlaces * d) vertices i 0
-
-  module _ (v : ℕ) (low : 1 ≤ v) (high : v ≤ maxVertices) where
-    pub found-place : (i : ℕ) → getD (placesOf p sizes vertices) (placeNumber v d) 0 ≡ suc i
-        → (i < sizeAt p sizes d) × (getD (pieceAt sizes vertices lengths d .vertices) i 0 ≡ v)
-    found-place i h =
-        let r = held-at vertices d v (sizeAt p sizes d) i (sym (places-hold p sizes vertices v d low high (omega (arith, fits .pieces-in))) ∙ h) in
-        (r .0, vertex-at i (r .0) ∙ r .1)
-
-    pub place-found : Different (pieceAt sizes vertices lengths d .vertices) → (i : ℕ) → i < sizeAt p sizes d
-        → getD (pieceAt sizes vertices lengths d .vertices) i 0 ≡ v → getD (placesOf p sizes vertices) (placeNumber v d) 0 ≡ suc i
-    unfolding sizeOf
-    place-found apart i r h =
-        let size = sizeOf-is p sizes vertices lengths fits d l in
-        places-hold p sizes vertices v d low high (omega (arith, fits .pieces-in))
-        ∙ at-held vertices d v (sizeAt p sizes d) i r (sym (vertex-at i r) ∙ h)
-        (λ j s e. different-at (pieceAt sizes vertices lengths d .vertices) apart j i (omega (arith, size)) (omega (arith, size)) (vertex-at j s ∙ e ∙ sym h))

@@ -36,14 +36,14 @@ length-windowsOf m l = length-windows (splitsOf m) ∙ rw (size-count m l)
 
 pub length-piece : (d m : ℕ) → m ≤ maxSize → length (piecePlacements d m) ≡ 2 * pred m
 unfolding piecePlacements
-length-piece d m l = length-map (windowsOf m) (place d m) ∙ length-windowsOf m l
+length-piece d m l = length-map (windowsOf m) (place d) ∙ length-windowsOf m l
 
 -- the heaps do not depend on the piece's number
 same : (d m : ℕ) → wordsOf (piecePlacements d m) ≡ wordsOf (piecePlacements 0 m)
 unfolding wordsOf piecePlacements total
 same d m = go (windowsOf m)
   where
-    go : (ws : List Window) → total (map words (map (place d m) ws)) ≡ total (map words (map (place 0 m) ws))
+    go : (ws : List Window) → total (map words (map (place d) ws)) ≡ total (map words (map (place 0) ws))
     go [] = refl
     go (w ∷ ws) = rw (total, go ws)
 

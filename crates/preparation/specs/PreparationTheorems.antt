@@ -3,12 +3,12 @@
 --   words-apart words-end                               the words of the heaps
 --   the-window the-sides the-entry                      a block is a window of the matrix
 --   row-vertex column-vertex                            where the vertices of a block stand
---   vertex-found found-vertex                           the place of a vertex in a piece
---   the-numbers the-place the-others                    all of these in the one array of tables
+--   first-place next-place                              the places of a vertex, linked
+--   the-numbers the-others                              all of these in the one array of tables
 --   the-piece first-window second-window first-half second-half    the blocks of a place, by the halving
 --   its-row no-row no-vertex elsewhere                  who is a row of a block
--- Blocks are numbered from 0 here, pieces too. `Fits p sizes vertices lengths` says that there are at most 16 pieces, none larger than 24, and that
--- the buffers of the vertices and of the lengths have their sizes.
+-- Blocks are numbered from 0 here, pieces too. `Fits p sizes vertices` says that there are at most 16 pieces, none larger than 24, and that
+-- the buffer of the vertices has its size.
 use mathlib.Core.Path.{_≡_, _∙_}
 use mathlib.Core.Logic.{_⊎_, _≢_}
 use mathlib.Core.List.{List}
@@ -20,16 +20,16 @@ use Rattle.definitions.specs.Limits.{maxVertices, maxPieces, maxSize, rowPlaces
 use Rattle.definitions.specs.Network.{Piece, sizeOf, noPiece}
 use Rattle.definitions.specs.Blocks.{Window, windowsOf, Block, noBlock, blockOf, blocks}
 use Rattle.definitions.specs.Labelling.{placeOf}
-use Rattle.definitions.specs.Judgement.{pieceAt, piecesOf}
+use Rattle.definitions.specs.Judgement.{piecesOf}
 use Rattle.definitions.specs.HeapWords.{heapWords}
 use Rattle.basics.specs.ListLaws.{Different}
 use Rattle.monge.specs.Matrix.{at}
-use Rattle.preparation.specs.Prepared.{sizeAt, matrixOf, placeNumber, placesOf, partsOf, slotIn, rowIn, colIn, colsIn, lastIn, rowCountIn, maxBlocks, maxWords, placementsOf, firstsOf, tablesOf, placeIn, firstIn, sizeIn, vertexIn, piecesIn}
+use Rattle.preparation.specs.Prepared.{sizeAt, matrixOf, partsOf, slotIn, rowIn, colIn, colsIn, lastIn, rowCountIn, maxBlocks, maxWords, placementsOf, firstsOf, tablesOf, startIn, nextIn, firstIn, sizeIn, vertexIn}
 use Rattle.preparation.specs.Placements.{length-upTo, blocks-few}
 use Rattle.preparation.specs.Numbering.{Fits, noWindow, first-is, firsts-are, Numbered, numbered}
-use Rattle.preparation.specs.PlaceTable.{place-found, found-place}
+use Rattle.preparation.specs.PlaceTable.{StandsAt, Next, all-linked}
 use Rattle.preparation.specs.Parts.{block-count, block-of, row-at, slots-apart, slots-end, rows-in, cols-in, cols-are, rows-are, sides-in, entry-is, row-vertex-is, column-is}
-use Rattle.preparation.specs.Tables.{NumbersSame, numbers-same, place-in, first-in, size-in, vertex-in, pieces-in}
+use Rattle.preparation.specs.Tables.{NumbersSame, numbers-same, start-in, next-in, first-in, size-in, vertex-in}
 use Rattle.preparation.specs.Stretches.{forth, back, Stretch, stretch-whole, stretch-first, stretch-second, stretch-left, stretch-right}
 use Rattle.preparation.specs.BlockRows.{row-inside, row-outside, row-absent, row-elsewhere}
 
@@ -39,7 +39,7 @@ blockNo p sizes vertices lengths b = getD (blocks (piecesOf p sizes vertices len
 
 -- ---- numbers
 
-module _ (p : ℕ) (sizes vertices lengths : List ℕ) (fits : Fits p sizes vertices lengths) where
+module _ (p : ℕ) (sizes vertices lengths : List ℕ) (fits : Fits p sizes vertices) where
   pub the-count : length (blocks (piecesOf p sizes vertices lengths)) ≤ maxBlocks
   unfolding placementsOf
   the-count = omega (arith, block-count p sizes vertices lengths fits, length-upTo p sizes maxPieces, blocks-few p sizes maxPieces)
@@ -95,7 +95,7 @@ module _ (p : ℕ) (sizes vertices lengths : List ℕ) (fits : Fits p sizes vert
     the-sides = sides-in p sizes vertices lengths fits b number
 
     pub the-entry : (i k : ℕ) → i < length (blockNo p sizes vertices lengths b .rows) → k < length (blockNo p sizes vertices lengths b .cols)
-        → blockNo p sizes vertices lengths b .lengths i k ≡ at (matrixOf p sizes lengths) (rowIn (partsOf p sizes) b + i) (colIn (partsOf p sizes) b + k)
+        → blockNo p sizes vertices lengths b .lengths i k ≡ at (matrixOf lengths) (rowIn (partsOf p sizes) b + i) (colIn (partsOf p sizes) b + k)
     the-entry i k r s = entry-is p sizes vertices lengths fits b number i k r (rw (cols-are p sizes vertices lengths fits b number) s)
 
     -- ---- vertices
@@ -108,17 +108,6 @@ module _ (p : ℕ) (sizes vertices lengths : List ℕ) (fits : Fits p sizes vert
         → getD (blockNo p sizes vertices lengths b .cols) k 0 ≡ getD vertices (lastIn (partsOf p sizes) b - k) 0
     column-vertex k r = column-is p sizes vertices lengths fits b number k (rw (cols-are p sizes vertices lengths fits b number) r)
 
-  -- ---- places
-
-  -- With different vertices in the piece, the place of vertex v and piece d holds 1 + i exactly if v stands at place i of the piece.
-  pub vertex-found : (d : ℕ) → d < p → (v : ℕ) → 1 ≤ v → v ≤ maxVertices → Different (pieceAt sizes vertices lengths d .vertices)
-      → (i : ℕ) → i < sizeAt p sizes d → getD (pieceAt sizes vertices lengths d .vertices) i 0 ≡ v → getD (placesOf p sizes vertices) (placeNumber v d) 0 ≡ suc i
-  vertex-found = place-found p sizes vertices lengths fits
-
-  pub found-vertex : (d : ℕ) → d < p → (v : ℕ) → 1 ≤ v → v ≤ maxVertices → (i : ℕ) → getD (placesOf p sizes vertices) (placeNumber v d) 0 ≡ suc i
-      → (i < sizeAt p sizes d) × (getD (pieceAt sizes vertices lengths d .vertices) i 0 ≡ v)
-  found-vertex = found-place p sizes vertices lengths fits
-
 -- ---- the one array
 
 module _ (p : ℕ) (sizes vertices : List ℕ) where
@@ -126,15 +115,18 @@ module _ (p : ℕ) (sizes vertices : List ℕ) where
   the-numbers : (b : ℕ) → b < maxBlocks → NumbersSame (tablesOf p sizes vertices) (partsOf p sizes) b
   the-numbers = numbers-same p sizes vertices
 
-  the-place : (v d : ℕ) → v ≤ maxVertices → 1 ≤ v → d < maxPieces → placeIn (tablesOf p sizes vertices) v d ≡ getD (placesOf p sizes vertices) (placeNumber v d) 0
-  the-place = place-in p sizes vertices
+  -- The places of a vertex are linked: its own word names its first place, and the word of a place at which it stands names its next place.
+  pub first-place : (v : ℕ) → 1 ≤ v → v ≤ maxVertices → Next p sizes vertices v 0 (startIn (tablesOf p sizes vertices) v)
+  first-place v l h = rw (start-in p sizes vertices v l h) (all-linked p sizes vertices .starts v l h)
 
-  -- The first block and the size of a piece, the vertex of a place, how many pieces there are.
+  pub next-place : (v x : ℕ) → 1 ≤ v → v ≤ maxVertices → StandsAt p sizes vertices v x → Next p sizes vertices v (suc x) (nextIn (tablesOf p sizes vertices) x)
+  next-place v x l h s = rw (next-in p sizes vertices x (s .inside)) (all-linked p sizes vertices .nexts v x l h (omega arith) s)
+
+  -- The first block and the size of a piece, the vertex of a place.
   the-others : ((d : ℕ) → d < maxPieces → firstIn (tablesOf p sizes vertices) d ≡ getD (firstsOf p sizes) d 0)
       × ((d : ℕ) → d < maxPieces → sizeIn (tablesOf p sizes vertices) d ≡ sizeAt p sizes d)
       × ((i : ℕ) → i < vertexPlaces → vertexIn (tablesOf p sizes vertices) i ≡ getD vertices i 0)
-      × (piecesIn (tablesOf p sizes vertices) ≡ p)
-  the-others = (first-in p sizes vertices, size-in p sizes vertices, vertex-in p sizes vertices, pieces-in p sizes vertices)
+  the-others = (first-in p sizes vertices, size-in p sizes vertices, vertex-in p sizes vertices)
 
 -- ---- the halving
 

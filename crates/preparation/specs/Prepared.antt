@@ -1,27 +1,26 @@
 -- What the labelling prepares from a lent network, in the places that its loop reads.
 --   sizeAt                                             the size of piece d
---   matrixRow matrixOf                                 the tables, one below the other, with their columns reversed
---   storePlace storePlaces placesUpTo placesOf         where a vertex stands in a piece
+--   matrixEntry matrixRow matrixOf filledMatrix        the tables, one below the other, each row backwards
+--   storePlace storePlaces placesFrom placesOf         the places of each vertex, linked
 --   Placement piecePlacements placementsOf             the blocks of all pieces by places, in their order
 --   words wordsOf numbers numbersFrom Stored partsOf   six numbers for each block
 --   pieceBlocks maxBlocks partPlaces maxWords          how many blocks there are at most, and how many words their heaps have
 --   slotIn rowIn colIn colsIn lastIn rowCountIn        which number is which
 --   blocksUpTo firstsOf                                the number of a piece's first block
 --   sizesOf verticesOf                                 the network's own numbers
---   placesAt .. piecesAt tableCount tablesOf           all of these tables in one array, and where each of them begins
---   placeIn firstIn sizeIn vertexIn piecesIn           what stands there
+--   placesAt .. tableCount tablesOf filledTables       all of these tables in one array, and where each of them begins
+--   startIn nextIn firstIn sizeIn vertexIn             what stands there
 use mathlib.Core.Path.{_≡_}
 use mathlib.Core.Bool.{cond, _&&_}
 use mathlib.Core.List.{List, [], _∷_, _++_, map}
-use Prim.Native.Nat.{ℕ, zero, suc, pred, _+_, _-_, _*_, _/_, _%_}
-use lib.Dec.{leb, ltb}
-use lib.ListN.{getD, length, set, drop, replicate}
+use Prim.Native.Nat.{ℕ, zero, suc, pred, _+_, _-_, _*_}
+use lib.Dec.{eqb, leb, ltb}
+use lib.ListN.{getD, set, length, replicate}
 use lib.Seq.{sets}
-use Rattle.definitions.specs.Limits.{maxVertices, maxPieces, maxSize, vertexPlaces, rowPlaces, tablePlaces}
+use Rattle.definitions.specs.Limits.{maxVertices, maxPieces, maxSize, vertexPlaces, lengthPlaces, rowPlaces}
 use Rattle.definitions.specs.Lists.{total, upFrom, padded, within}
 use Rattle.definitions.specs.Blocks.{Split, Window, windows, windowsOf}
 use Rattle.definitions.specs.HeapWords.{headWords, intervalWords, heapWords}
-use Rattle.monge.specs.Matrix.{reversedRow}
 
 -- 0 for a piece that the network does not have, and for a size above 24: such a piece has no vertex, no row and no block
 unfoldable pub sizeAt : ℕ → List ℕ → ℕ → ℕ
@@ -29,60 +28,65 @@ sizeAt p sizes d = cond (ltb d p && leb (getD sizes d 0) maxSize) (getD sizes d 
 
 -- ---- the matrix
 
--- row 24d + i is row i of piece d; a row that the piece does not have, and one that the lengths do not reach, is 0
-unfoldable pub matrixRow : ℕ → List ℕ → List ℕ → ℕ → List ℕ
-matrixRow p sizes lengths r =
-    cond (leb (rowPlaces * r + rowPlaces) (length lengths))
-    (reversedRow (sizeAt p sizes (r / rowPlaces)) (drop (tablePlaces * (r / rowPlaces)) lengths) (r % rowPlaces))
-    (replicate rowPlaces 0)
+-- row r is row r of the lent lengths with all its places, backwards; row 24d + i is row i of piece d
+abbrev pub matrixEntry : List ℕ → ℕ → ℕ → ℕ
+matrixEntry lengths r k = getD lengths (rowPlaces * r + (rowPlaces - 1 - k)) 0
 
-unfoldable pub matrixOf : ℕ → List ℕ → List ℕ → List (List ℕ)
-matrixOf p sizes lengths = map (matrixRow p sizes lengths) (upFrom 0 vertexPlaces)
+unfoldable pub matrixRow : List ℕ → ℕ → List ℕ
+matrixRow lengths r = map (matrixEntry lengths r) (upFrom 0 rowPlaces)
+
+unfoldable pub matrixOf : List ℕ → List (List ℕ)
+matrixOf lengths = map (matrixRow lengths) (upFrom 0 vertexPlaces)
+
+-- what a lent array of rows becomes; lengths of another number, and an array of another size, leave it as it is
+unfoldable pub filledMatrix : List (List ℕ) → List ℕ → List (List ℕ)
+filledMatrix before lengths = cond (eqb (length before) vertexPlaces && eqb (length lengths) lengthPlaces) (matrixOf lengths) before
 
 -- ---- the places of the vertices
 
--- how many places there are: one for each vertex and piece
+-- the places of each vertex, linked: one word for each vertex, its first place, and one for each place x = 24d + i, the next place of its vertex; each is
+-- 1 + a place, and 0 says that there is none
 abbrev pub placeCount : ℕ
-placeCount = maxVertices * maxPieces
+placeCount = maxVertices + vertexPlaces
 
--- vertex v of piece d
-abbrev pub placeNumber : ℕ → ℕ → ℕ
-placeNumber v d = maxPieces * (v - 1) + d
+-- v stands at place x, which comes before the places that v has so far
+unfoldable pub storePlace : ℕ → ℕ → List ℕ → List ℕ
+storePlace x v xs = cond (within maxVertices v) (set (set xs (maxVertices + x) (getD xs (v - 1) 0)) (v - 1) (suc x)) xs
 
--- v stands at place i of piece d: 1 + i is written, so that 0 says that it does not stand in the piece
-unfoldable pub storePlace : ℕ → ℕ → ℕ → List ℕ → List ℕ
-storePlace d i v xs = cond (within maxVertices v) (set xs (placeNumber v d) (suc i)) xs
+-- the number among all places of the k-th place before the last one of piece d, of size m
+abbrev pub placeBefore : ℕ → ℕ → ℕ → ℕ
+placeBefore d m k = rowPlaces * d + (m - 1 - k)
 
--- the first i places of piece d
-unfoldable pub storePlaces : List ℕ → ℕ → List ℕ → ℕ → List ℕ
-storePlaces vertices d xs zero = xs
-storePlaces vertices d xs (suc i) = storePlace d i (getD vertices (rowPlaces * d + i) 0) (storePlaces vertices d xs i)
+-- the last k places of piece d, of size m, from the last one on
+unfoldable pub storePlaces : List ℕ → ℕ → ℕ → List ℕ → ℕ → List ℕ
+storePlaces vertices d m xs zero = xs
+storePlaces vertices d m xs (suc k) = storePlace (placeBefore d m k) (getD vertices (placeBefore d m k) 0) (storePlaces vertices d m xs k)
 
--- the first d pieces
-unfoldable pub placesUpTo : ℕ → List ℕ → List ℕ → ℕ → List ℕ
-placesUpTo p sizes vertices zero = replicate placeCount 0
-placesUpTo p sizes vertices (suc d) = storePlaces vertices d (placesUpTo p sizes vertices d) (sizeAt p sizes d)
+-- the last k of 16 pieces, from the last one on
+unfoldable pub placesFrom : ℕ → List ℕ → List ℕ → ℕ → List ℕ
+placesFrom p sizes vertices zero = replicate placeCount 0
+placesFrom p sizes vertices (suc k) =
+    storePlaces vertices (maxPieces - 1 - k) (sizeAt p sizes (maxPieces - 1 - k)) (placesFrom p sizes vertices k) (sizeAt p sizes (maxPieces - 1 - k))
 
 unfoldable pub placesOf : ℕ → List ℕ → List ℕ → List ℕ
-placesOf p sizes vertices = placesUpTo p sizes vertices maxPieces
+placesOf p sizes vertices = placesFrom p sizes vertices maxPieces
 
 -- ---- the blocks
 
--- a block: its piece, the piece's size, and its places there
+-- a block: its piece, and its places there
 pub record Placement : Type 0 where
   pub piece : ℕ
-  pub size : ℕ
   pub window : Window
 
-abbrev pub place : ℕ → ℕ → Window → Placement
-place d m w = record { piece = d; size = m; window = w }
+abbrev pub place : ℕ → Window → Placement
+place d w = record { piece = d; window = w }
 
--- the two blocks of a split of piece d, of size m; the blocks of that piece; those of the first d pieces, in the order of the blocks
-unfoldable pub splitPlacements : ℕ → ℕ → Split → List Placement
-splitPlacements d m c = map (place d m) (windows (c ∷ []))
+-- the two blocks of a split of piece d; the blocks of that piece, of size m; those of the first d pieces, in the order of the blocks
+unfoldable pub splitPlacements : ℕ → Split → List Placement
+splitPlacements d c = map (place d) (windows (c ∷ []))
 
 unfoldable pub piecePlacements : ℕ → ℕ → List Placement
-piecePlacements d m = map (place d m) (windowsOf m)
+piecePlacements d m = map (place d) (windowsOf m)
 
 unfoldable pub placementsUpTo : ℕ → List ℕ → ℕ → List Placement
 placementsUpTo p sizes zero = []
@@ -103,7 +107,7 @@ abbrev pub rowOf : Placement → ℕ
 rowOf x = rowPlaces * x .piece + x .window .row0
 
 abbrev pub colOf : Placement → ℕ
-colOf x = x .size - (x .window .col0 + x .window .cols)
+colOf x = rowPlaces - (x .window .col0 + x .window .cols)
 
 abbrev pub lastOf : Placement → ℕ
 lastOf x = rowPlaces * x .piece + (x .window .col0 + x .window .cols - 1)
@@ -196,6 +200,10 @@ verticesOf vertices = map (λ i. getD vertices i 0) (upFrom 0 vertexPlaces)
 abbrev pub placesAt : ℕ
 placesAt = partPlaces
 
+-- the words of the places, behind those of the vertices
+abbrev pub nextsAt : ℕ
+nextsAt = placesAt + maxVertices
+
 abbrev pub firstsAt : ℕ
 firstsAt = placesAt + placeCount
 
@@ -205,20 +213,24 @@ sizesAt = firstsAt + maxPieces
 abbrev pub verticesAt : ℕ
 verticesAt = sizesAt + maxPieces
 
-abbrev pub piecesAt : ℕ
-piecesAt = verticesAt + vertexPlaces
-
 abbrev pub tableCount : ℕ
-tableCount = piecesAt + 1
+tableCount = verticesAt + vertexPlaces
 
 unfoldable pub tablesOf : ℕ → List ℕ → List ℕ → List ℕ
-tablesOf p sizes vertices = partsOf p sizes ++ (placesOf p sizes vertices ++ (firstsOf p sizes ++ (sizesOf p sizes ++ (verticesOf vertices ++ (p ∷ [])))))
+tablesOf p sizes vertices = partsOf p sizes ++ (placesOf p sizes vertices ++ (firstsOf p sizes ++ (sizesOf p sizes ++ verticesOf vertices)))
 
--- 1 + the place of vertex v in piece d, or 0
-abbrev pub placeIn : List ℕ → ℕ → ℕ → ℕ
-placeIn tables v d = getD tables (placesAt + placeNumber v d) 0
+-- what a lent array becomes; one of another size is left as it is
+unfoldable pub filledTables : List ℕ → ℕ → List ℕ → List ℕ → List ℕ
+filledTables before p sizes vertices = cond (eqb (length before) tableCount) (tablesOf p sizes vertices) before
 
--- the first block and the size of piece d, the vertex of a place of all pieces, how many pieces there are
+-- 1 + the first place of vertex v, 1 + the place after x of the vertex that stands at x; 0 where there is none
+abbrev pub startIn : List ℕ → ℕ → ℕ
+startIn tables v = getD tables (placesAt + (v - 1)) 0
+
+abbrev pub nextIn : List ℕ → ℕ → ℕ
+nextIn tables x = getD tables (nextsAt + x) 0
+
+-- the first block and the size of piece d, the vertex of a place of all pieces
 abbrev pub firstIn : List ℕ → ℕ → ℕ
 firstIn tables d = getD tables (firstsAt + d) 0
 
@@ -227,6 +239,3 @@ sizeIn tables d = getD tables (sizesAt + d) 0
 
 abbrev pub vertexIn : List ℕ → ℕ → ℕ
 vertexIn tables i = getD tables (verticesAt + i) 0
-
-abbrev pub piecesIn : List ℕ → ℕ
-piecesIn tables = getD tables piecesAt 0

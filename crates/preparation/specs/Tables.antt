@@ -1,9 +1,9 @@
 -- What stands in the one array of tables.
 --   parts-count .. tables-count      how long the tables are
 --   in-parts NumbersSame numbers-same    the numbers of a block
---   place-in first-in size-in vertex-in pieces-in    the others
+--   start-in next-in first-in size-in vertex-in    the others
 use mathlib.Core.Path.{_≡_, _∙_}
-use mathlib.Core.List.{List, [], _∷_, _++_}
+use mathlib.Core.List.{List, _++_}
 use Prim.Native.Nat.{ℕ, _+_, _-_, _*_, _≤_, _<_}
 use native.Mathlib.Omega.{arith}
 use lib.ListN.{getD, length, length-append, length-map, List·getD-append}
@@ -11,7 +11,7 @@ use lib.Seq.{getD-append-add}
 use Rattle.definitions.specs.Limits.{maxVertices, maxPieces, vertexPlaces}
 use Rattle.definitions.specs.Lists.{upFrom}
 use Rattle.basics.specs.Sequences.{length-upFrom, getD-each}
-use Rattle.preparation.specs.Prepared.{sizeAt, maxBlocks, partNumbers, slotIn, rowIn, colIn, colsIn, lastIn, rowCountIn, partPlaces, placeCount, placeNumber, partsOf, placesOf, blocksUpTo, firstsOf, sizesOf, verticesOf, placesAt, firstsAt, sizesAt, verticesAt, tableCount, tablesOf, placeIn, firstIn, sizeIn, vertexIn, piecesIn}
+use Rattle.preparation.specs.Prepared.{sizeAt, maxBlocks, partNumbers, slotIn, rowIn, colIn, colsIn, lastIn, rowCountIn, partPlaces, placeCount, partsOf, placesOf, blocksUpTo, firstsOf, sizesOf, verticesOf, placesAt, nextsAt, firstsAt, sizesAt, verticesAt, tableCount, tablesOf, startIn, nextIn, firstIn, sizeIn, vertexIn}
 use Rattle.preparation.specs.PlaceTable.{places-long}
 use Rattle.preparation.specs.Parts.{parts-long}
 
@@ -37,11 +37,8 @@ module _ (p : ℕ) (sizes vertices : List ℕ) where
   vertices-count = length-map (upFrom 0 vertexPlaces) (λ (i : ℕ). getD vertices i 0) ∙ length-upFrom 0 vertexPlaces
 
   -- what stands behind the first, the second, .. table
-  abbrev T₅ : List ℕ
-  T₅ = p ∷ []
-
   abbrev T₄ : List ℕ
-  T₄ = verticesOf vertices ++ T₅
+  T₄ = verticesOf vertices
 
   abbrev T₃ : List ℕ
   T₃ = sizesOf p sizes ++ T₄
@@ -89,8 +86,13 @@ module _ (p : ℕ) (sizes vertices : List ℕ) where
   from-vertices : (i : ℕ) → getD (tablesOf p sizes vertices) (verticesAt + i) 0 ≡ getD T₄ i 0
   from-vertices i = let e : verticesAt + i ≡ sizesAt + (maxPieces + i) = omega arith in rw e (from-sizes (maxPieces + i) ∙ behind (sizesOf p sizes) T₄ maxPieces i sizes-count)
 
-  pub place-in : (v d : ℕ) → v ≤ maxVertices → 1 ≤ v → d < maxPieces → placeIn (tablesOf p sizes vertices) v d ≡ getD (placesOf p sizes vertices) (placeNumber v d) 0
-  place-in v d h l r = from-places (placeNumber v d) ∙ List·getD-append (placesOf p sizes vertices) T₂ 0 (placeNumber v d) (omega (arith, places-long p sizes vertices))
+  pub start-in : (v : ℕ) → 1 ≤ v → v ≤ maxVertices → startIn (tablesOf p sizes vertices) v ≡ getD (placesOf p sizes vertices) (v - 1) 0
+  start-in v l h = from-places (v - 1) ∙ List·getD-append (placesOf p sizes vertices) T₂ 0 (v - 1) (omega (arith, places-long p sizes vertices))
+
+  pub next-in : (x : ℕ) → x < vertexPlaces → nextIn (tablesOf p sizes vertices) x ≡ getD (placesOf p sizes vertices) (maxVertices + x) 0
+  next-in x l =
+      let e : nextsAt + x ≡ placesAt + (maxVertices + x) = omega arith in
+      rw e (from-places (maxVertices + x) ∙ List·getD-append (placesOf p sizes vertices) T₂ 0 (maxVertices + x) (omega (arith, places-long p sizes vertices)))
 
   pub first-in : (d : ℕ) → d < maxPieces → firstIn (tablesOf p sizes vertices) d ≡ getD (firstsOf p sizes) d 0
   first-in d l = from-firsts d ∙ List·getD-append (firstsOf p sizes) T₃ 0 d (omega (arith, firsts-count))
@@ -101,7 +103,4 @@ module _ (p : ℕ) (sizes vertices : List ℕ) where
 
   pub vertex-in : (i : ℕ) → i < vertexPlaces → vertexIn (tablesOf p sizes vertices) i ≡ getD vertices i 0
   unfolding verticesOf
-  vertex-in i l = from-vertices i ∙ List·getD-append (verticesOf vertices) T₅ 0 i (omega (arith, vertices-count)) ∙ getD-each (λ (j : ℕ). getD vertices j 0) vertexPlaces i 0 l
-
-  pub pieces-in : piecesIn (tablesOf p sizes vertices) ≡ p
-  pieces-in = from-vertices vertexPlaces ∙ behind (verticesOf vertices) T₅ vertexPlaces 0 vertices-count
+  vertex-in i l = from-vertices i ∙ getD-each (λ (j : ℕ). getD vertices j 0) vertexPlaces i 0 l

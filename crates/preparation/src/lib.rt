@@ -1,17 +1,18 @@
-// What the labelling prepares from a lent network before its loop. Each function takes any input: a piece that is not there, and one
+// What the labelling prepares from a lent network before its loop, in arrays that it lends. In the tables a piece that is not there, and one
 // whose size is above 24, counts as empty.
 ghost use mathlib.Core.Path.{_≡_};
 ghost use mathlib.Core.List.{[], _∷_};
 ghost use Prim.Native.Nat.{pred, _+_, _-_, _*_, _<_, _≤_};
 ghost use lib.ListN.{length, getD, replicate};
 ghost use lib.Seq.{sets};
-ghost use Rattle.definitions.specs.Limits.{maxSize, sizePlaces, vertexPlaces, rowPlaces};
+ghost use Rattle.definitions.specs.Limits.{maxSize, sizePlaces, vertexPlaces, rowPlaces, lengthPlaces};
 ghost use Rattle.definitions.specs.Blocks.{allSplits};
 ghost use Rattle.definitions.specs.HeapWords.{heapWords};
 ghost use Rattle.splits.specs.Table.{flattened, splitOf};
-ghost use Rattle.preparation.specs.Prepared.{sizeAt, matrixRow, matrixOf, storePlace, storePlaces, placesOf, splitPlacements, piecePlacements, partNumbers, pieceBlocks, maxWords, splitWords, placeCount, partPlaces, Stored, partsOf, firstsOf, sizesOf, verticesOf, tableCount, tablesOf};
+ghost use Rattle.preparation.specs.Prepared.{sizeAt, matrixRow, matrixOf, filledMatrix, storePlace, storePlaces, placesOf, splitPlacements, piecePlacements, partNumbers, pieceBlocks, maxWords, splitWords, placeCount, partPlaces, Stored, partsOf, firstsOf, sizesOf, verticesOf, tableCount, tablesOf, filledTables};
 use bounds::Network;
 use bounds::Session;
+use buffers::fill;
 use splits::Split;
 
 // The words of an interval heap: those before its intervals, and those of each interval.
@@ -26,12 +27,16 @@ impl HeapWords {
 
     pub const HEAD: usize = 2;
 
-    // the words of an interval: its parent, its first and its last column
+    // the words of an interval: its parent, its first and its last column, its best column and that one's sum
     pub const PARENT: usize = 0;
 
     pub const FIRST: usize = 1;
 
     pub const LAST: usize = 2;
+
+    pub const BEST_COLUMN: usize = 3;
+
+    pub const BEST_SUM: usize = 4;
 
     pub const INTERVAL: usize = Session::INTERVAL_SIZE;
 }
@@ -40,8 +45,8 @@ impl HeapWords {
 pub struct Prepared;
 
 impl Prepared {
-    // one for each vertex and piece
-    const PLACES: usize = Network::LABEL_PLACES * Network::SIZE_PLACES;
+    // the places of each vertex, linked: a word for each vertex and for each place
+    const PLACES: usize = Network::LABEL_PLACES + Network::VERTEX_PLACES;
 
     // a piece of m places has m - 1 splits, and each gives two blocks
     const PIECE_BLOCKS: usize = 2 * (Network::ROW_PLACES - 1);
@@ -78,16 +83,16 @@ impl Prepared {
     // the numbers of the blocks stand first, behind them these
     pub const PLACES_AT: usize = Prepared::PARTS;
 
+    // the words of the places, behind those of the vertices
+    pub const NEXTS_AT: usize = Prepared::PLACES_AT + Network::LABEL_PLACES;
+
     pub const FIRSTS_AT: usize = Prepared::PLACES_AT + Prepared::PLACES;
 
     pub const SIZES_AT: usize = Prepared::FIRSTS_AT + Network::SIZE_PLACES;
 
     pub const VERTICES_AT: usize = Prepared::SIZES_AT + Network::SIZE_PLACES;
 
-    // how many pieces there are
-    pub const PIECES_AT: usize = Prepared::VERTICES_AT + Network::VERTEX_PLACES;
-
-    pub const TABLES: usize = Prepared::PIECES_AT + 1;
+    pub const TABLES: usize = Prepared::VERTICES_AT + Network::VERTEX_PLACES;
 }
 
 // ---- pieces
@@ -110,80 +115,94 @@ fn size_at(p: u32, sizes: &[u32], d: usize) -> u32
 
 // ---- the matrix
 
-// Row r of the matrix: row r % 24 of piece r / 24.
-fn matrix_row(p: u32, sizes: &[u32], lengths: &[u32], r: usize) -> [u32; Network::ROW_PLACES]
-    requires { ⌜ r < vertexPlaces ⌝ }
-    ensures { λ x. ⌜ x ≡ matrixRow p (now (sizes .entry)) (now (lengths .entry)) r ⌝ }
+// Row r of the lent lengths, backwards.
+fn fill_row(row: &mut [u32], lengths: &[u32], r: usize)
+    requires { ⌜ (length (now row) ≡ rowPlaces) × (length (now lengths) ≡ lengthPlaces) × (r < vertexPlaces) ⌝ }
+    ensures { λ _. ⌜ now (row .exit) ≡ matrixRow (now (lengths .entry)) r ⌝ }
 {
-    if Network::ROW_PLACES * r + Network::ROW_PLACES > lengths.len() {
-        return [0u32; Network::ROW_PLACES];
+    let from = Network::ROW_PLACES * r;
+    let mut k = 0;
+    while k < Network::ROW_PLACES {
+        row[k] = lengths[from + (Network::ROW_PLACES - 1 - k)];
+        k += 1;
     }
-    let d = r / Network::ROW_PLACES;
-    let m = size_at(p, sizes, d);
-    let from = Network::TABLE_PLACES * d;
-    monge::reversed_row(m, &lengths[from..], r % Network::ROW_PLACES)
 }
 
-// The tables of all pieces, one below the other, each with its columns reversed: every block is a window of this matrix.
-pub fn matrix(
-    p: u32,
-    sizes: &[u32],
-    lengths: &[u32],
-) -> [[u32; Network::ROW_PLACES]; Network::VERTEX_PLACES]
-    ensures { λ x. ⌜ x ≡ matrixOf p (now (sizes .entry)) (now (lengths .entry)) ⌝ }
+// All rows of the matrix.
+fn fill_rows(matrix: &mut [[u32; Network::ROW_PLACES]], lengths: &[u32])
+    requires { ⌜ (length (now matrix) ≡ vertexPlaces) × (length (now lengths) ≡ lengthPlaces) ⌝ }
+    ensures { λ _. ⌜ now (matrix .exit) ≡ matrixOf (now (lengths .entry)) ⌝ }
 {
-    let mut matrix = [[0u32; Network::ROW_PLACES]; Network::VERTEX_PLACES];
     let mut r = 0;
     while r < Network::VERTEX_PLACES {
-        let row = matrix_row(p, sizes, lengths, r);
-        matrix[r] = row;
+        fill_row(&mut matrix[r], lengths, r);
         r += 1;
     }
-    matrix
+}
+
+// The tables of all pieces, one below the other, each with its columns reversed: every block is a window of this matrix. Rows are copied
+// whole; no block has the places that its piece does not use. A matrix or lengths of another size leave the matrix as it is.
+pub fn fill_matrix(matrix: &mut [[u32; Network::ROW_PLACES]], lengths: &[u32])
+    ensures { λ _. ⌜ now (matrix .exit) ≡ filledMatrix (now (matrix .entry)) (now (lengths .entry)) ⌝ }
+{
+    if matrix.len() != Network::VERTEX_PLACES {
+        return;
+    }
+    if lengths.len() != Network::LENGTH_PLACES {
+        return;
+    }
+    fill_rows(matrix, lengths);
 }
 
 // ---- the places of the vertices
 
-// Place i of piece d.
-fn store_place(places: &mut [u32], vertices: &[u32], d: usize, i: usize)
-    requires { ⌜ (length (now places) ≡ placeCount) × (d < sizePlaces) × (i < rowPlaces) ⌝ }
-    ensures { λ _. ⌜ now (places .exit) ≡ storePlace d i (getD (now (vertices .entry)) (rowPlaces * d + i) 0) (now (places .entry)) ⌝ }
+// Place x of all pieces comes before the places that its vertex has so far.
+fn store_place(places: &mut [u32], vertices: &[u32], x: usize)
+    requires { ⌜ (length (now places) ≡ placeCount) × (x < vertexPlaces) ⌝ }
+    ensures { λ _. ⌜ now (places .exit) ≡ storePlace x (getD (now (vertices .entry)) x 0) (now (places .entry)) ⌝ }
 {
-    let at = Network::ROW_PLACES * d + i;
-    if at >= vertices.len() {
+    if x >= vertices.len() {
         return;
     }
-    let v = vertices[at];
+    let v = vertices[x];
     if v < 1 {
         return;
     }
     if v > Network::MAX_VERTICES {
         return;
     }
-    places[Network::SIZE_PLACES * (v as usize - 1) + d] = i as u32 + 1;
+    let first = places[v as usize - 1];
+    places[Network::LABEL_PLACES + x] = first;
+    places[v as usize - 1] = x as u32 + 1;
 }
 
-// The places of piece d, of size m.
+// The places of piece d, of size m, from the last one on.
 fn store_places(places: &mut [u32], vertices: &[u32], d: usize, m: u32)
     requires { ⌜ (length (now places) ≡ placeCount) × (d < sizePlaces) × (m ≤ maxSize) ⌝ }
-    ensures { λ _. ⌜ now (places .exit) ≡ storePlaces (now (vertices .entry)) d (now (places .entry)) m ⌝ }
+    ensures { λ _. ⌜ now (places .exit) ≡ storePlaces (now (vertices .entry)) d m (now (places .entry)) m ⌝ }
 {
-    let mut i = 0;
-    while i < m as usize {
-        store_place(places, vertices, d, i);
-        i += 1;
+    let mut k = 0;
+    while k < m as usize {
+        store_place(
+            places,
+            vertices,
+            Network::ROW_PLACES * d + (m as usize - 1 - k),
+        );
+        k += 1;
     }
 }
 
-// At 16 (v - 1) + d stands 1 + the place of vertex v in piece d, or 0 if it does not stand there.
+// The places of each vertex, linked: at v - 1 stands 1 + the first place of vertex v, at 256 + x stands 1 + the place after x of the vertex that stands
+// at x, and 0 where there is none. Places are stored from the last one on, so that they rise along the links.
 fn fill_places(places: &mut [u32], p: u32, sizes: &[u32], vertices: &[u32])
     requires { ⌜ now places ≡ replicate placeCount 0 ⌝ }
     ensures { λ _. ⌜ now (places .exit) ≡ placesOf p (now (sizes .entry)) (now (vertices .entry)) ⌝ }
 {
-    let mut d = 0;
-    while d < Network::SIZE_PLACES {
+    let mut k = 0;
+    while k < Network::SIZE_PLACES {
+        let d = Network::SIZE_PLACES - 1 - k;
         store_places(places, vertices, d, size_at(p, sizes, d));
-        d += 1;
+        k += 1;
     }
 }
 
@@ -214,27 +233,26 @@ fn block_count(m: u32) -> u32
     2 * (m - 1)
 }
 
-// The numbers of block b, of piece d of size m, whose heap begins at the word `slot`. Returns the word after that heap.
+// The numbers of block b, of piece d, whose heap begins at the word `slot`. Returns the word after that heap.
 fn store_part(
     parts: &mut [u32],
     b: usize,
     slot: u32,
     d: usize,
-    m: usize,
     row0: usize,
     col0: usize,
     cols: usize,
     rows: usize,
 ) -> u32
-    requires { ⌜ (partNumbers * b + partNumbers ≤ length (now parts)) × (slot ≤ maxWords + pieceBlocks * splitWords) × (d < sizePlaces) × (m ≤ maxSize) × (row0 < rowPlaces) × (1 ≤ cols) × (col0 + cols ≤ m) × (rows ≤ rowPlaces) ⌝ }
-    ensures stored { λ r. ⌜ now (parts .exit) ≡ sets (now (parts .entry)) (partNumbers * b) (slot ∷ (rowPlaces * d + row0) ∷ (m - (col0 + cols)) ∷ cols ∷ (rowPlaces * d + (col0 + cols - 1)) ∷ rows ∷ []) ⌝ }
+    requires { ⌜ (partNumbers * b + partNumbers ≤ length (now parts)) × (slot ≤ maxWords + pieceBlocks * splitWords) × (d < sizePlaces) × (row0 < rowPlaces) × (1 ≤ cols) × (col0 + cols ≤ rowPlaces) × (rows ≤ rowPlaces) ⌝ }
+    ensures stored { λ r. ⌜ now (parts .exit) ≡ sets (now (parts .entry)) (partNumbers * b) (slot ∷ (rowPlaces * d + row0) ∷ (rowPlaces - (col0 + cols)) ∷ cols ∷ (rowPlaces * d + (col0 + cols - 1)) ∷ rows ∷ []) ⌝ }
     ensures next { λ r. ⌜ r ≡ slot + heapWords cols ⌝ }
 {
     let at = Prepared::PART * b;
     let end = col0 + cols;
     parts[at] = slot;
     parts[at + Prepared::TOP] = (Network::ROW_PLACES * d + row0) as u32;
-    parts[at + Prepared::COL0] = (m - end) as u32;
+    parts[at + Prepared::COL0] = (Network::ROW_PLACES - end) as u32;
     parts[at + Prepared::COLS] = cols as u32;
     parts[at + Prepared::LAST] = (Network::ROW_PLACES * d + (end - 1)) as u32;
     parts[at + Prepared::ROWS] = rows as u32;
@@ -242,16 +260,15 @@ fn store_part(
 }
 
 // The numbers of blocks b and b + 1, which a split gives.
-fn store_split(parts: &mut [u32], b: usize, slot: u32, d: usize, m: usize, c: Split) -> u32
-    requires { ⌜ (partNumbers * (b + 2) ≤ length (now parts)) × (slot ≤ maxWords + maxSize * splitWords) × (d < sizePlaces) × (m ≤ maxSize) × (c .first < c .middle) × (c .middle < c .end) × (c .end ≤ m) ⌝ }
-    ensures { λ r. ⌜ Stored (now (parts .entry)) (now (parts .exit)) b slot r (splitPlacements d m (splitOf c)) ⌝ }
+fn store_split(parts: &mut [u32], b: usize, slot: u32, d: usize, c: Split) -> u32
+    requires { ⌜ (partNumbers * (b + 2) ≤ length (now parts)) × (slot ≤ maxWords + maxSize * splitWords) × (d < sizePlaces) × (c .first < c .middle) × (c .middle < c .end) × (c .end ≤ rowPlaces) ⌝ }
+    ensures { λ r. ⌜ Stored (now (parts .entry)) (now (parts .exit)) b slot r (splitPlacements d (splitOf c)) ⌝ }
 {
     let next = store_part(
         parts,
         b,
         slot,
         d,
-        m,
         c.first,
         c.middle,
         c.end - c.middle,
@@ -262,7 +279,6 @@ fn store_split(parts: &mut [u32], b: usize, slot: u32, d: usize, m: usize, c: Sp
         b + 1,
         next,
         d,
-        m,
         c.middle,
         c.first,
         c.middle - c.first,
@@ -280,7 +296,7 @@ fn store_piece(parts: &mut [u32], splits: &[u8], b: usize, slot: u32, d: usize, 
     let mut s = 0;
     while s + 1 < m {
         let c = splits::split_in(splits, begin + s);
-        next = store_split(parts, b + 2 * s, next, d, m, c);
+        next = store_split(parts, b + 2 * s, next, d, c);
         s += 1;
     }
     next
@@ -343,8 +359,8 @@ fn fill_vertices(out: &mut [u32], vertices: &[u32])
 
 // ---- all tables
 
-// Each table behind those before it.
-fn fill_tables(tables: &mut [u32], p: u32, sizes: &[u32], vertices: &[u32])
+// The tables, one behind the other, in an array of zeros.
+fn store_tables(tables: &mut [u32], p: u32, sizes: &[u32], vertices: &[u32])
     requires { ⌜ now tables ≡ replicate tableCount 0 ⌝ }
     ensures { λ _. ⌜ now (tables .exit) ≡ tablesOf p (now (sizes .entry)) (now (vertices .entry)) ⌝ }
 {
@@ -366,18 +382,20 @@ fn fill_tables(tables: &mut [u32], p: u32, sizes: &[u32], vertices: &[u32])
         sizes,
     );
     fill_vertices(
-        &mut tables[Prepared::VERTICES_AT..Prepared::PIECES_AT],
+        &mut tables[Prepared::VERTICES_AT..Prepared::TABLES],
         vertices,
     );
-    tables[Prepared::PIECES_AT] = p;
 }
 
-// What the loop reads beside the matrix, in one array: the numbers of the blocks, the places of the vertices, the first blocks and the sizes
-// of the pieces, the vertices of all pieces, and how many pieces there are.
-pub fn tables(p: u32, sizes: &[u32], vertices: &[u32]) -> [u32; Prepared::TABLES]
-    ensures { λ r. ⌜ r ≡ tablesOf p (now (sizes .entry)) (now (vertices .entry)) ⌝ }
+// What the loop reads beside the matrix, in one array that is cleared first, each table behind those before it: the numbers of the blocks, the places of the
+// vertices, linked, the first blocks and the sizes of the pieces, and the vertices of all pieces. An array of another
+// size is left as it is.
+pub fn fill_tables(tables: &mut [u32], p: u32, sizes: &[u32], vertices: &[u32])
+    ensures { λ _. ⌜ now (tables .exit) ≡ filledTables (now (tables .entry)) p (now (sizes .entry)) (now (vertices .entry)) ⌝ }
 {
-    let mut tables = [0u32; Prepared::TABLES];
-    fill_tables(&mut tables, p, sizes, vertices);
-    tables
+    if tables.len() != Prepared::TABLES {
+        return;
+    }
+    fill(tables, 0);
+    store_tables(tables, p, sizes, vertices);
 }

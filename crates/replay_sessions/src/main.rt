@@ -21,9 +21,6 @@ const INPUT_PLACES: usize = MAX_BYTES + 1;
 // What a buffer holds before a session: a place that must be left or written shows.
 const FILLER: u32 = 7;
 
-// The numbers of an answer, and of an interval.
-const TRIPLE: usize = Session::ANSWER_SIZE;
-
 // ---- reading
 
 // A number of the text, and the place after it.
@@ -184,17 +181,16 @@ fn write_line(numbers: &[u32]) {
     io::write_all(STDOUT_FILENO, b"\n");
 }
 
-fn write_triple(s: &[u32], j: u32) {
-    let first = TRIPLE * (j as usize);
-    let end = first + TRIPLE;
-    if end <= s.len() {
-        write_line(&s[first..end]);
-    }
-}
-
-fn write_triples(s: &[u32], count: u32) {
-    for j in 0..count {
-        write_triple(s, j);
+// Writes the first answers or intervals, a line each; each has `size` numbers.
+fn write_groups(numbers: &[u32], size: usize, count: u32) {
+    let mut at = 0;
+    for _ in 0..count {
+        if size > numbers.len() - at {
+            return;
+        }
+        let end = at + size;
+        write_line(&numbers[at..end]);
+        at = end;
     }
 }
 
@@ -222,7 +218,7 @@ fn parent_of(intervals: &[u32], j: u32) -> u32 {
     }
 }
 
-// How many intervals are kept.
+// How many intervals are kept. The first that is not has the parent UNUSED; a best sum may be the same number.
 fn count_kept(intervals: &[u32]) -> u32 {
     let mut kept = 0;
     while kept < Session::MAX_SIDE && parent_of(intervals, kept) != Session::UNUSED {
@@ -237,22 +233,26 @@ fn are_clean(number: u32, count: u32, answers: &[u32], intervals: &[u32]) -> boo
         return is_filled(answers, 0, FILLER) && is_filled(intervals, 0, FILLER);
     }
     let kept = count_kept(intervals);
-    is_filled(answers, TRIPLE * (count as usize), 0)
-        && is_filled(intervals, TRIPLE * (kept as usize), Session::UNUSED)
+    is_filled(answers, Session::ANSWER_SIZE * (count as usize), 0)
+        && is_filled(
+            intervals,
+            Session::INTERVAL_SIZE * (kept as usize),
+            Session::UNUSED,
+        )
 }
 
 fn write_intervals(intervals: &[u32]) {
     let kept = count_kept(intervals);
     let line = [kept];
     write_line(&line);
-    write_triples(intervals, kept);
+    write_groups(intervals, Session::INTERVAL_SIZE, kept);
 }
 
 fn write_session(given: SessionAnswer, count: u32, answers: &[u32], intervals: &[u32]) {
     let line = [given.number, given.inserted, given.removed];
     write_line(&line);
     if given.number == Cause::NONE {
-        write_triples(answers, count);
+        write_groups(answers, Session::ANSWER_SIZE, count);
         write_intervals(intervals);
     }
     if !are_clean(given.number, count, answers, intervals) {

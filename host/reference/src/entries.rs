@@ -2,7 +2,9 @@
 
 use crate::model::{label_plan, Model};
 use crate::network::{is_monge, judge_places, judge_source, Lent, Plan};
-use crate::network::{ANSWERS, CALLS, COLUMNS, INTERVALS, LABELS, LINE, LISTING, RECTANGLE, ROOM};
+use crate::network::{
+    ANSWERS, CALLS, COLUMNS, INTERVALS, INTERVAL_SIZE, LABELS, LINE, LISTING, RECTANGLE, ROOM,
+};
 use crate::network::{MAX_CALLS, MAX_LENGTH, MAX_SIZE};
 use crate::number_of;
 use crate::text;
@@ -123,9 +125,9 @@ pub fn run_session(
     }
     intervals.fill(NO_INTERVAL);
     let mut kept = model.intervals();
-    kept.sort_by_key(|&[_, first, _]| first); // document 02, request 2
-    for (place, interval) in kept.iter().enumerate() {
-        intervals[3 * place..3 * place + 3].copy_from_slice(interval);
+    kept.sort_by_key(|&[_, first, ..]| first); // document 02, request 2
+    for (places, interval) in intervals.chunks_mut(INTERVAL_SIZE).zip(&kept) {
+        places.copy_from_slice(interval);
     }
     [0, model.inserted, model.removed]
 }

@@ -1,62 +1,77 @@
 //! The labelling by interval heaps, FR-Dijkstra, unproved: the yardstick for the speed of the proved one.
 //!
 //! - the lengths of each piece are copied with their columns reversed, so that every block is a window of the matrix;
-//! - the heap of a block is a part of one array of words: how many intervals, whether a row is activated, then parent, first and last
-//!   column of each interval, packed from the front by rising column;
-//! - an activation walks outward from the place of the new row and ends in a binary search on each side; the least of the columns won
-//!   is the block's new sum, if it is lower;
-//! - an extraction scans the intervals for the lowest column of least sum;
+//! - an interval is five words: parent, first column, last column, best column, best sum; those of a block lie in a part of one array,
+//!   packed from the front by rising column;
+//! - one function scans columns: it finds the best of an interval when that is written, and nothing else looks for a least length;
+//! - an activation walks outward from the place of the new row and ends in a binary search on each side; the best sum of the new
+//!   interval is the block's new sum, if it is lower;
+//! - an extraction takes the least of the bests and cuts that interval at its best column; the block's new sum is the least of the bests
+//!   that are left;
 //! - a tournament tree of keys, made of sum and block, gives the block;
 //! - the labels of the rows are shared by all blocks of a piece.
 //!
-//! The proved one has this design but for the activation: it finds both ends of the columns won by halving, first over the intervals
-//! and then over the columns of one, and then scans all intervals of the block for its sum.
+//! The proved one has this design but for two things. In the activation it tests the two columns beside the new row's place first, and
+//! then finds both ends of the columns won by halving, over the intervals and over the columns of one. And it keeps how many intervals
+//! there are, and whether a row is activated, among the words of the heap.
 
 use crate::model::UNREACHED;
 use crate::network::{
     places, Lent, LABELS, MAX_LENGTH, MAX_PIECES, MAX_VERTICES, NO_PLACE, ROOM, SIZES, VERTICES,
 };
 
-/// A block: its first row in the matrix, its first column there, and where the words of its heap are.
-#[derive(Clone, Copy, Default)]
+/// A block: its first row in the matrix, its first column there, and where its intervals begin among all.
+#[derive(Clone, Copy)]
 struct Block {
-    row: usize,
-    rows: usize,
-    column: usize,
-    columns: usize,
-    words: usize,
+    row: u16,
+    rows: u16,
+    column: u16,
+    columns: u16,
+    intervals: u16,
 }
 
 /// A piece of 24 vertices has 46 blocks, with 112 columns in all.
 const MAX_BLOCKS: usize = SIZES * 46;
 
-/// Two words for each block and three for each column of each block.
-const MAX_WORDS: usize = 2 * MAX_BLOCKS + 3 * (SIZES * 112);
+/// No two intervals of a block share a column.
+const MAX_INTERVALS: usize = SIZES * 112;
 
 // ---- preparation
+
+/// The lengths with the columns of each piece reversed.
+type Matrix = [[u32; ROOM]; VERTICES];
+
+fn fill_matrix(matrix: &mut Matrix, lent: &Lent) {
+    for d in 0..lent.p as usize {
+        let m = lent.sizes[d] as usize;
+        let rows = lent.lengths[ROOM * ROOM * d..].chunks(ROOM).take(m);
+        for (stored, row) in matrix[ROOM * d..].iter_mut().zip(rows) {
+            for (place, &length) in stored[..m].iter_mut().rev().zip(row) {
+                *place = length;
+            }
+        }
+    }
+}
 
 /// The blocks of all pieces in their order, and the number of the first one of each piece.
 struct Blocks {
     all: [Block; MAX_BLOCKS],
     count: usize,
-    words: usize,
+    columns: u16,
     first: [usize; SIZES],
 }
 
 impl Blocks {
-    fn of(lent: &Lent) -> Blocks {
-        let mut blocks =
-            Blocks { all: [Block::default(); MAX_BLOCKS], count: 0, words: 0, first: [0; SIZES] };
+    fn fill(&mut self, lent: &Lent) {
         for d in 0..lent.p as usize {
-            blocks.first[d] = blocks.count;
-            let m = lent.sizes[d] as usize;
-            blocks.split(ROOM * d, m, 0, m);
+            self.first[d] = self.count;
+            let m = lent.sizes[d] as u16;
+            self.split((ROOM * d) as u16, m, 0, m);
         }
-        blocks
     }
 
     /// The stretch of places `start..end` of a piece of m vertices, whose first row in the matrix is `row`.
-    fn split(&mut self, row: usize, m: usize, start: usize, end: usize) {
+    fn split(&mut self, row: u16, m: u16, start: u16, end: u16) {
         if end - start < 2 {
             return;
         }
@@ -67,29 +82,11 @@ impl Blocks {
         self.split(row, m, middle, end);
     }
 
-    fn push(&mut self, row: usize, rows: usize, column: usize, columns: usize) {
-        let words = self.words;
-        self.all[self.count] = Block { row, rows, column, columns, words };
+    fn push(&mut self, row: u16, rows: u16, column: u16, columns: u16) {
+        self.all[self.count] = Block { row, rows, column, columns, intervals: self.columns };
         self.count += 1;
-        self.words += 2 + 3 * columns;
+        self.columns += columns;
     }
-}
-
-/// The lengths with the columns of each piece reversed.
-type Matrix = [[u32; ROOM]; VERTICES];
-
-fn reversed(lent: &Lent) -> Matrix {
-    let mut matrix = [[0; ROOM]; VERTICES];
-    for d in 0..lent.p as usize {
-        let m = lent.sizes[d] as usize;
-        for i in 0..m {
-            let row = &lent.lengths[ROOM * (ROOM * d + i)..][..m];
-            for (j, &length) in row.iter().enumerate() {
-                matrix[ROOM * d + i][m - 1 - j] = length;
-            }
-        }
-    }
-    matrix
 }
 
 // ---- the check
@@ -157,63 +154,67 @@ fn is_monge(table: &[u32], top: usize, bottom: usize, left: usize, right: usize)
 
 // ---- the heap of a block
 
+/// An interval with its best: the lowest column of least sum, and that sum.
+#[derive(Clone, Copy)]
+struct Interval {
+    parent: u32,
+    first: u32,
+    last: u32,
+    best_column: u32,
+    best_sum: u32,
+}
+
 /// A block's lengths and the labels of its rows.
 struct Window<'a> {
     lengths: &'a [[u32; ROOM]],
     labels: &'a [u32],
     column: usize,
-    columns: usize,
 }
 
 impl Window<'_> {
-    fn sum(&self, row: usize, column: usize) -> u32 {
-        self.labels[row] + self.lengths[row][self.column + column]
+    fn sum(&self, row: u32, column: u32) -> u32 {
+        self.labels[row as usize] + self.lengths[row as usize][self.column + column as usize]
     }
 
     /// Whether the new row is strictly below the parent there.
-    fn wins(&self, new: usize, parent: usize, column: usize) -> bool {
+    fn wins(&self, new: u32, parent: u32, column: u32) -> bool {
         self.sum(new, column) < self.sum(parent, column)
     }
 
-    /// The lowest column of least sum among columns `first..=last` of a row.
-    fn least(&self, row: usize, first: usize, last: usize) -> (usize, u32) {
-        let entries = &self.lengths[row][self.column + first..=self.column + last];
-        let (mut column, mut least) = (0, entries[0]);
-        for (k, &length) in entries.iter().enumerate() {
+    /// The lowest column of least length among columns `first..=last` of a row, and that length.
+    fn least(&self, row: u32, first: u32, last: u32) -> (u32, u32) {
+        let stretch = &self.lengths[row as usize][self.column + first as usize..=self.column + last as usize];
+        let (mut best, mut least) = (first, stretch[0]);
+        for (column, &length) in (first..).zip(stretch) {
             if length < least {
-                (column, least) = (k, length);
+                (best, least) = (column, length);
             }
         }
-        (first + column, self.labels[row] + least)
+        (best, least)
     }
-}
 
-fn interval(heap: &[u32], k: usize) -> (usize, usize, usize) {
-    let words = &heap[2 + 3 * k..5 + 3 * k];
-    (words[0] as usize, words[1] as usize, words[2] as usize)
-}
-
-fn put(heap: &mut [u32], k: usize, parent: usize, first: usize, last: usize) {
-    let words = &mut heap[2 + 3 * k..5 + 3 * k];
-    words[0] = parent as u32;
-    words[1] = first as u32;
-    words[2] = last as u32;
+    /// Columns `first..=last` as an interval of this parent, whose label all their sums share.
+    #[inline]
+    fn interval(&self, parent: u32, first: u32, last: u32) -> Interval {
+        let (best_column, length) = self.least(parent, first, last);
+        let best_sum = self.labels[parent as usize] + length;
+        Interval { parent, first, last, best_column, best_sum }
+    }
 }
 
 /// The columns that a new row wins, and the intervals `low..high` that they meet.
 struct Won {
     low: usize,
     high: usize,
-    first: usize,
-    last: usize,
+    first: u32,
+    last: u32,
 }
 
-fn search(heap: &[u32], window: &Window, new: usize) -> Won {
-    let count = heap[0] as usize;
-    let middle = (0..count).position(|k| heap[2 + 3 * k] as usize > new).unwrap_or(count);
-    let mut won = Won { low: middle, high: middle, first: ROOM, last: 0 };
+fn search(kept: &[Interval], window: &Window, new: u32) -> Won {
+    let middle = kept.iter().position(|v| v.parent > new).unwrap_or(kept.len());
+    let mut won = Won { low: middle, high: middle, first: ROOM as u32, last: 0 };
     while won.low > 0 {
-        let (parent, first, last) = interval(heap, won.low - 1);
+        let Interval { parent, first, last, .. } = kept[won.low - 1];
         if !window.wins(new, parent, last) {
             break;
         }
@@ -224,8 +225,8 @@ fn search(heap: &[u32], window: &Window, new: usize) -> Won {
             break;
         }
     }
-    while won.high < count {
-        let (parent, first, last) = interval(heap, won.high);
+    while won.high < kept.len() {
+        let Interval { parent, first, last, .. } = kept[won.high];
         if !window.wins(new, parent, first) {
             break;
         }
@@ -239,8 +240,8 @@ fn search(heap: &[u32], window: &Window, new: usize) -> Won {
     won
 }
 
-/// The first place of `a..b` where the test fails, b if it fails nowhere: true first, then false.
-fn boundary(mut a: usize, mut b: usize, test: impl Fn(usize) -> bool) -> usize {
+/// The first column of `a..b` where the test fails, b if it fails nowhere: true first, then false.
+fn boundary(mut a: u32, mut b: u32, test: impl Fn(u32) -> bool) -> u32 {
     while a < b {
         let middle = (a + b) / 2;
         if test(middle) {
@@ -252,57 +253,75 @@ fn boundary(mut a: usize, mut b: usize, test: impl Fn(usize) -> bool) -> usize {
     a
 }
 
-/// Columns `first..=last`, which meet the intervals `low..high`, give way to an interval of the new row, if there is one. How many
-/// intervals stand where the old ones stood.
-fn replace(heap: &mut [u32], won: Won, new: Option<usize>) -> u32 {
-    let count = heap[0] as usize;
-    let (left, left_first, _) = interval(heap, won.low);
-    let (right, _, right_last) = interval(heap, won.high - 1);
-    let keep_left = usize::from(left_first < won.first);
-    let keep_right = usize::from(won.last < right_last);
-    let inserted = keep_left + usize::from(new.is_some()) + keep_right;
-    heap.copy_within(2 + 3 * won.high..2 + 3 * count, 2 + 3 * (won.low + inserted));
-    heap[0] = (count - (won.high - won.low) + inserted) as u32;
-    if keep_left == 1 {
-        put(heap, won.low, left, left_first, won.first - 1);
-    }
-    if let Some(row) = new {
-        put(heap, won.low + keep_left, row, won.first, won.last);
-    }
-    if keep_right == 1 {
-        put(heap, won.low + inserted - 1, right, won.last + 1, right_last);
-    }
-    inserted as u32
+/// The heap of a block: room for as many intervals as it has columns, how many it keeps, and whether a row is activated.
+struct Heap<'a> {
+    intervals: &'a mut [Interval],
+    count: &'a mut usize,
+    activated: &'a mut bool,
 }
 
-/// How many intervals an activation inserts, and the least sum of the columns won.
-fn activate(heap: &mut [u32], window: &Window, new: usize) -> (u32, Option<u32>) {
-    if heap[1] == 0 {
-        let last = window.columns - 1;
-        heap[0] = 1;
-        heap[1] = 1;
-        put(heap, 0, new, 0, last);
-        return (1, Some(window.least(new, 0, last).1));
+impl Heap<'_> {
+    fn kept(&self) -> &[Interval] {
+        &self.intervals[..*self.count]
     }
-    let won = search(heap, window, new);
-    if won.low == won.high {
-        return (0, None);
-    }
-    let sum = window.least(new, won.first, won.last).1;
-    (replace(heap, won, Some(new)), Some(sum))
-}
 
-/// The interval, the column and the sum of an extraction.
-fn least(heap: &[u32], window: &Window) -> Option<(usize, usize, u32)> {
-    let mut found: Option<(usize, usize, u32)> = None;
-    for k in 0..heap[0] as usize {
-        let (parent, first, last) = interval(heap, k);
-        let (column, sum) = window.least(parent, first, last);
-        if found.is_none_or(|(_, _, least)| sum < least) {
-            found = Some((k, column, sum));
+    /// How many intervals an activation inserts, and the best sum of the new row's, if it wins a column.
+    fn activate(&mut self, window: &Window, new: u32) -> Option<(u32, u32)> {
+        if !*self.activated {
+            let all = window.interval(new, 0, self.intervals.len() as u32 - 1);
+            self.intervals[0] = all;
+            *self.count = 1;
+            *self.activated = true;
+            return Some((1, all.best_sum));
         }
+        let won = search(self.kept(), window, new);
+        if won.low == won.high {
+            return None;
+        }
+        let left = self.intervals[won.low];
+        let right = self.intervals[won.high - 1];
+        let keep_left = usize::from(left.first < won.first);
+        let keep_right = usize::from(won.last < right.last);
+        let inserted = keep_left + 1 + keep_right;
+        self.make_room(won.low, won.high, inserted);
+        if keep_left == 1 {
+            self.intervals[won.low] = window.interval(left.parent, left.first, won.first - 1);
+        }
+        let own = window.interval(new, won.first, won.last);
+        self.intervals[won.low + keep_left] = own;
+        if keep_right == 1 {
+            self.intervals[won.low + inserted - 1] = window.interval(right.parent, won.last + 1, right.last);
+        }
+        Some((inserted as u32, own.best_sum))
     }
-    found
+
+    /// The place of the interval with the lowest column of least sum.
+    fn least(&self) -> Option<usize> {
+        let kept = self.kept();
+        (0..kept.len()).min_by_key(|&k| kept[k].best_sum) // the first of equals
+    }
+
+    /// The lowest column of least sum, that sum, and how many intervals its extraction inserts.
+    fn extract(&mut self, window: &Window) -> Option<(u32, u32, u32)> {
+        let k = self.least()?;
+        let Interval { parent, first, last, best_column, best_sum } = self.intervals[k];
+        let keep_left = usize::from(first < best_column);
+        let keep_right = usize::from(best_column < last);
+        self.make_room(k, k + 1, keep_left + keep_right);
+        if keep_left == 1 {
+            self.intervals[k] = window.interval(parent, first, best_column - 1);
+        }
+        if keep_right == 1 {
+            self.intervals[k + keep_left] = window.interval(parent, best_column + 1, last);
+        }
+        Some((best_column, best_sum, (keep_left + keep_right) as u32))
+    }
+
+    /// The intervals from place `high` on move, so that `room` places stand instead of those from `low` to `high`.
+    fn make_room(&mut self, low: usize, high: usize, room: usize) {
+        self.intervals.copy_within(high..*self.count, low + room);
+        *self.count = *self.count - (high - low) + room;
+    }
 }
 
 // ---- the tournament of the blocks
@@ -353,11 +372,35 @@ struct State {
     matrix: Matrix,
     blocks: Blocks,
     labels: [u32; VERTICES],
-    heaps: [u32; MAX_WORDS],
+    intervals: [Interval; MAX_INTERVALS],
+    counts: [usize; MAX_BLOCKS],
+    activated: [bool; MAX_BLOCKS],
     tree: [u64; 2 * LEAVES],
 }
 
 impl State {
+    /// Nothing but zeros: a constant, so that it is laid down once and not copied together from its parts.
+    const ZEROS: State = State {
+        matrix: [[0; ROOM]; VERTICES],
+        blocks: Blocks {
+            all: [Block { row: 0, rows: 0, column: 0, columns: 0, intervals: 0 }; MAX_BLOCKS],
+            count: 0,
+            columns: 0,
+            first: [0; SIZES],
+        },
+        labels: [0; VERTICES],
+        intervals: [Interval { parent: 0, first: 0, last: 0, best_column: 0, best_sum: 0 }; MAX_INTERVALS],
+        counts: [0; MAX_BLOCKS],
+        activated: [false; MAX_BLOCKS],
+        tree: [0; 2 * LEAVES],
+    };
+
+    fn prepare(&mut self, lent: &Lent) {
+        fill_matrix(&mut self.matrix, lent);
+        self.blocks.fill(lent);
+        self.tree.fill(IDLE);
+    }
+
     /// The vertex at place `i` of a piece has its label: it is activated in the blocks where it is a row.
     fn activate_place(&mut self, piece: usize, size: usize, i: usize) -> u32 {
         let (mut start, mut end) = (0, size);
@@ -375,37 +418,43 @@ impl State {
                 start += half;
                 number += 2 * half;
             }
-            inserted += self.activate_row(b, i - start);
+            inserted += self.activate_row(b, (i - start) as u32);
         }
         inserted
     }
 
     /// The heap of block b, and what it looks up.
-    fn block(&mut self, b: usize) -> (&mut [u32], Window<'_>) {
-        let Block { row, rows, column, columns, words } = self.blocks.all[b];
-        let heap = &mut self.heaps[words..words + 2 + 3 * columns];
-        let lengths = &self.matrix[row..row + rows];
-        let labels = &self.labels[row..row + rows];
-        (heap, Window { lengths, labels, column, columns })
+    fn block(&mut self, b: usize) -> (Heap<'_>, Window<'_>) {
+        let Block { row, rows, column, columns, intervals } = self.blocks.all[b];
+        let rows = usize::from(row)..usize::from(row + rows);
+        let heap = Heap {
+            intervals: &mut self.intervals[usize::from(intervals)..usize::from(intervals + columns)],
+            count: &mut self.counts[b],
+            activated: &mut self.activated[b],
+        };
+        let window = Window {
+            lengths: &self.matrix[rows.clone()],
+            labels: &self.labels[rows],
+            column: usize::from(column),
+        };
+        (heap, window)
     }
 
-    fn activate_row(&mut self, b: usize, row: usize) -> u32 {
-        let (heap, window) = self.block(b);
-        let (inserted, sum) = activate(heap, &window, row);
-        if let Some(sum) = sum {
-            lower(&mut self.tree, b, key(sum, b));
-        }
+    fn activate_row(&mut self, b: usize, row: u32) -> u32 {
+        let (mut heap, window) = self.block(b);
+        let Some((inserted, sum)) = heap.activate(&window, row) else {
+            return 0;
+        };
+        lower(&mut self.tree, b, key(sum, b));
         inserted
     }
 
     /// An extraction from block b: the stored column's place in its piece, the sum, how many intervals it inserts.
     fn extract(&mut self, b: usize) -> Option<(usize, u32, u32)> {
-        let (heap, window) = self.block(b);
-        let (k, column, sum) = least(heap, &window)?;
-        let cut = Won { low: k, high: k + 1, first: column, last: column };
-        let inserted = replace(heap, cut, None);
-        let next = least(heap, &window).map_or(IDLE, |(_, _, sum)| key(sum, b));
-        let stored = window.column + column;
+        let (mut heap, window) = self.block(b);
+        let (column, sum, inserted) = heap.extract(&window)?;
+        let next = heap.least().map_or(IDLE, |k| key(heap.intervals[k].best_sum, b));
+        let stored = window.column + column as usize;
         raise(&mut self.tree, b, next);
         Some((stored, sum, inserted))
     }
@@ -414,13 +463,8 @@ impl State {
 /// Fills the labels of an accepted network, `LABELS` places.
 pub fn label(lent: &Lent, source: u32, labels: &mut [u32]) -> Counts {
     let places = places(lent);
-    let mut state = State {
-        matrix: reversed(lent),
-        blocks: Blocks::of(lent),
-        labels: [0; VERTICES],
-        heaps: [0; MAX_WORDS],
-        tree: [IDLE; 2 * LEAVES],
-    };
+    let mut state = State::ZEROS;
+    state.prepare(lent);
     labels.fill(UNREACHED);
     let mut counts = Counts { reached: 0, extracted: 0, inserted: 0 };
     let (mut v, mut label) = (source as usize - 1, 0);
@@ -446,7 +490,7 @@ pub fn label(lent: &Lent, source: u32, labels: &mut [u32]) -> Counts {
         };
         counts.extracted += 1;
         counts.inserted += inserted;
-        let piece = state.blocks.all[b].row / ROOM;
+        let piece = usize::from(state.blocks.all[b].row) / ROOM;
         let place = lent.sizes[piece] as usize - 1 - column;
         (v, label) = (lent.vertices[ROOM * piece + place] as usize - 1, sum);
     }

@@ -1,4 +1,4 @@
-//! The rules of document 01 with requests 1 and 2 of document 02, written plainly in Rust from these documents alone. The tests compare the proved library with them, and
+//! The rules of document 01 with requests 1 to 3 of document 02, written plainly in Rust from these documents alone. The tests compare the proved library with them, and
 //! the benchmark measures it beside the two labellings here.
 //!
 //! - `network`: bounds and sizes, a plan, its blocks, the causes 4 to 8, lent buffers

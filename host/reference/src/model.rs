@@ -1,14 +1,17 @@
 //! The plain book of a block, and the labelling over a fresh one for each block.
 
-use crate::network::{blocks, rectangle, Plan, LABELS, MAX_LENGTH, MAX_VERTICES};
+use crate::network::{blocks, rectangle, Plan, INTERVAL_SIZE, LABELS, MAX_LENGTH, MAX_VERTICES};
 
 /// The largest label of an activation: a shortest walk has fewer arcs than there are vertices.
 pub const MAX_LABEL: u32 = (MAX_VERTICES - 1) * MAX_LENGTH;
 /// The label of a vertex that is not reached, and of a place above n.
 pub const UNREACHED: u32 = u32::MAX;
 
-/// An interval: parent, first column, last column.
-pub type Interval = [u32; 3];
+/// An interval: parent, first column, last column, and its best: the lowest column of least sum in it, and that sum.
+pub type Interval = [u32; INTERVAL_SIZE];
+
+/// An interval without its best.
+type Stretch = [u32; 3];
 
 /// The activated rows with their labels in order, the extracted columns, the floor; and what all calls inserted and removed.
 pub struct Model {
@@ -40,25 +43,40 @@ impl Model {
         sums.min_by_key(|&(_, sum)| sum) // the first of equals
     }
 
+    /// The lowest of these rising columns that has the least sum, with that sum.
+    fn least_of(&self, columns: impl Iterator<Item = usize>) -> Option<(usize, u32)> {
+        let sums = columns.filter_map(|c| Some((c, self.parent(c)?.1)));
+        sums.min_by_key(|&(_, sum)| sum) // the first of equals
+    }
+
     /// The lowest column of least sum, with that sum.
     pub fn least(&self) -> Option<(usize, u32)> {
-        let sums = (0..self.columns()).filter_map(|c| Some((c, self.parent(c)?.1)));
-        sums.min_by_key(|&(_, sum)| sum)
+        self.least_of(0..self.columns())
     }
 
     /// The longest stretches of neighbouring columns with one parent.
-    pub fn intervals(&self) -> Vec<Interval> {
-        let mut intervals: Vec<Interval> = Vec::new();
+    fn stretches(&self) -> Vec<Stretch> {
+        let mut stretches: Vec<Stretch> = Vec::new();
         for column in 0..self.columns() as u32 {
             let Some((row, _)) = self.parent(column as usize) else {
                 continue;
             };
-            match intervals.last_mut() {
+            match stretches.last_mut() {
                 Some([parent, _, last]) if *parent == row as u32 && *last + 1 == column => *last = column,
-                _ => intervals.push([row as u32, column, column]),
+                _ => stretches.push([row as u32, column, column]),
             }
         }
-        intervals
+        stretches
+    }
+
+    /// The kept intervals: the stretches, each with its best.
+    pub fn intervals(&self) -> Vec<Interval> {
+        let with_best = |[parent, first, last]: Stretch| {
+            let best = self.least_of(first as usize..=last as usize);
+            let (column, sum) = best.expect("its columns have a parent");
+            [parent, first, last, column as u32, sum]
+        };
+        self.stretches().into_iter().map(with_best).collect()
     }
 
     fn judge(&self, kind: u32, row: u32, label: u32) -> u32 {
@@ -92,11 +110,11 @@ impl Model {
         [0, column as u32, sum]
     }
 
-    /// One call, kind 1 or 2 or any other number: code, column, sum.
+    /// One call, kind 1 or 2 or any other number: code, column, sum. The counts compare intervals by parent, first and last column.
     pub fn call(&mut self, kind: u32, row: u32, label: u32) -> [u32; 3] {
-        let before = self.intervals();
+        let before = self.stretches();
         let answer = self.step(kind, row, label);
-        let after = self.intervals();
+        let after = self.stretches();
         self.inserted += after.iter().filter(|v| !before.contains(v)).count() as u32;
         self.removed += before.iter().filter(|v| !after.contains(v)).count() as u32;
         answer

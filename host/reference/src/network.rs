@@ -36,8 +36,10 @@ pub const RECTANGLE: usize = ROOM * ROOM;
 pub const CALLS: usize = 3 * MAX_CALLS as usize;
 /// Places of a session's answers: code, column and sum of each.
 pub const ANSWERS: usize = CALLS;
-/// Places of a session's intervals: parent, first and last column of each.
-pub const INTERVALS: usize = 3 * ROOM;
+/// Numbers of an interval: parent, first column, last column, best column, best sum.
+pub const INTERVAL_SIZE: usize = 5;
+/// Places of a session's intervals: no two of them share a column.
+pub const INTERVALS: usize = INTERVAL_SIZE * ROOM;
 /// Bytes of a field that is written.
 pub const COLUMNS: usize = 9;
 /// Bytes of the line that fields are written into: four of them.

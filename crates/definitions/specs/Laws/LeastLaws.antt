@@ -1,6 +1,6 @@
 -- What `leastFrom` finds among n places from c on: the proofs behind the laws of `leastLeft` in the file `Model`.
---   LowestFrom Found found-is     the lowest place of least sum, or nobody at any of them
---   least-lowest least-nobody     the same of the first n places, each case by itself
+--   Found found-is                the lowest place of least sum, or nobody at any of them
+--   least-lowest least-nobody     each case by itself
 --   leastFrom-same                it reads these places only
 use mathlib.Core.Path.{_≡_, refl}
 use mathlib.Core.Logic.{⊎-elim}
@@ -10,18 +10,9 @@ use native.Mathlib.Omega.{arith}
 use Rattle.logic.specs.Tests.{Order, less, more, order}
 use Rattle.definitions.specs.Best.{Best, nobody, by, lesser, placed, leastFrom, Lowest}
 
--- place k, one of the n places from c on, has the sum s; no place has a smaller one, and none below k has as small a one
-pub record LowestFrom (w : ℕ → Best) (c n k s : ℕ) : Type 0 where
-  pub low : c ≤ k
-  pub high : k < c + n
-  pub holder : ℕ
-  pub here : w k ≡ by holder s
-  pub no-less : (j p t : ℕ) → c ≤ j → j < c + n → w j ≡ by p t → s ≤ t
-  pub no-lower : (j p t : ℕ) → c ≤ j → j < k → w j ≡ by p t → s < t
-
 abbrev pub Found : (ℕ → Best) → ℕ → ℕ → Best → Type 0
 Found w c n nobody = (j : ℕ) → c ≤ j → j < c + n → w j ≡ nobody
-Found w c n (by k s) = LowestFrom w c n k s
+Found w c n (by k s) = Lowest w c n k s
 
 -- ---- the proof: place c before the n places after it
 
@@ -38,7 +29,7 @@ with-next c m P here later j a b = ⊎-elim (λ (z : c ≡ j). rw (← z) here) 
 
 module _ (w : ℕ → Best) (c n : ℕ) where
   -- the places after c keep their lowest where place c has nobody, or a greater sum
-  keeps : (k s : ℕ) → ((p t : ℕ) → w c ≡ by p t → s < t) → LowestFrom w (suc c) n k s → LowestFrom w c (suc n) k s
+  keeps : (k s : ℕ) → ((p t : ℕ) → w c ≡ by p t → s < t) → Lowest w (suc c) n k s → Lowest w c (suc n) k s
   keeps k s above h = record {
     low = omega arith;
     high = omega arith;
@@ -49,7 +40,7 @@ module _ (w : ℕ → Best) (c n : ℕ) where
   }
 
   -- place c is the lowest where no place after it has a smaller sum
-  first : (p s : ℕ) → w c ≡ by p s → ((j p′ t : ℕ) → c < j → j < suc c + n → w j ≡ by p′ t → s ≤ t) → LowestFrom w c (suc n) c s
+  first : (p s : ℕ) → w c ≡ by p s → ((j p′ t : ℕ) → c < j → j < suc c + n → w j ≡ by p′ t → s ≤ t) → Lowest w c (suc n) c s
   first p s q above = record {
     low = le-refl c;
     high = omega arith;
@@ -75,18 +66,11 @@ unfolding leastFrom
 found-is w c zero = λ j a b. absurd (omega arith)
 found-is w c (suc n) = found-step w c n (w c) refl (leastFrom w (suc c) n) (found-is w (suc c) n)
 
--- ---- of the first n places
+-- ---- each case by itself
 
 -- what it finds is the lowest place of least sum
-pub least-lowest : (w : ℕ → Best) (n k s : ℕ) → leastFrom w 0 n ≡ by k s → Lowest w n k s
-least-lowest w n k s h =
-    let f : LowestFrom w 0 n k s = rw h at (found-is w 0 n) in
-    record {
-      inside = omega (arith, f .high);
-      here = (f .holder, f .here);
-      no-less = λ d p t l q. omega (arith, f .no-less d p t (omega arith) (omega arith) q);
-      no-lower = λ d p t l q. omega (arith, f .no-lower d p t (omega arith) l q);
-    }
+pub least-lowest : (w : ℕ → Best) (c n k s : ℕ) → leastFrom w c n ≡ by k s → Lowest w c n k s
+least-lowest w c n k s h = rw h at (found-is w c n)
 
 -- it finds nobody only where nobody is at any of the places
 pub least-nobody : (w : ℕ → Best) (n : ℕ) → leastFrom w 0 n ≡ nobody → (d : ℕ) → d < n → w d ≡ nobody

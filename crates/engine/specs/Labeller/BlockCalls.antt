@@ -1,70 +1,40 @@
 -- A call on the heap of one block is a call on its model, and the tournament follows its least sum.
 --   accepted-is                              an activation that is not refused
---   played-after falls                       the tournament with a new key; an activation only lowers it
+--   played-after                             the tournament with a new key
+--   played-lower played-same                 after an activation: the lesser of two keys; the same one
 --   number-in block-same                     the blocks of the states
 --   can-activate found-is-least              what the lent parts of a block allow, and what is found in them
 --   extracted activated                      what a call leaves
-use mathlib.Core.Path.{_≡_, refl, sym, ap, _∙_}
+use mathlib.Core.Path.{_≡_, refl, sym, ap, _∙_, subst}
 use mathlib.Core.Bool.{cond}
 use mathlib.Core.List.{List}
-use Prim.Native.Nat.{ℕ, _+_, _-_, _≤_, _<_}
-use native.Mathlib.Nat.{le-refl}
+use Prim.Native.Nat.{ℕ, _+_, _-_, _<_, min}
 use native.Mathlib.Omega.{arith}
 use lib.ListN.{getD, length, set, take, drop, length-map, List·getD-map}
 use lib.Seq.{getD-take, getD-drop, getD-set-same, getD-set-other, map-set-same}
 use Rattle.definitions.specs.HeldModel.{lentEntry, Holds}
 use Rattle.definitions.specs.declared.Extraction.{Extraction}
-use Rattle.definitions.specs.Lists.{mem}
+use Rattle.definitions.specs.Limits.{below}
 use Rattle.definitions.specs.Network.{Rectangle}
 use Rattle.definitions.specs.Blocks.{Block, noBlock}
 use Rattle.definitions.specs.Best.{Best, nobody, by, lesser, leastFrom}
-use Rattle.definitions.specs.Laws.LeastLaws.{LowestFrom, Found, found-is}
-use Rattle.definitions.specs.Model.{Activation, Model, through, parent, available, judge, activate, extract, extractionOf, Call, Trace, extend}
+use Rattle.definitions.specs.Model.{Model, available, judge, activate, extract, extractionOf, Call, Trace, extend}
 use Rattle.definitions.specs.Labelling.{BlockState, noBlockState, activation, extraction, apply, leastOf}
-use Rattle.logic.specs.Tests.{Truth, holds, fails, truth, Equal, equal, differ, equality}
-use Rattle.heap_laws.specs.Lesser.{UpTo, upTo-lesser, upTo-is}
-use Rattle.heap_laws.specs.Parents.{parent-snoc}
+use Rattle.logic.specs.Tests.{Order, less, more, order, Equal, equal, differ, equality}
+use Rattle.heap_laws.specs.Sound.{Sound}
+use Rattle.heap_laws.specs.Bests.{SameSum}
 use Rattle.heap_laws.specs.ModelCalls.{Activates, Cases, activates, extracts, refuses, cases, step-activate, step-extract}
 use Rattle.heap_laws.specs.Agree.{leastFrom-agree, extend-agree}
 use Rattle.preparation.specs.Prepared.{rowIn, colIn, colsIn, rowCountIn}
 use Rattle.engine.specs.declared.heap.Lowest as code
+use Rattle.engine.specs.declared.heap.Activated.{Activated}
 use Rattle.engine.specs.declared.blocks.Numbers.{Numbers}
 use Rattle.engine.specs.Heap.Holds.{sound-of}
-use Rattle.engine.specs.Heap.LeastColumn.{LeastLeaves, bestOf}
-use Rattle.engine.specs.Heap.HeapCalls.{Becomes, ActivateGiven, MinExtracted}
+use Rattle.engine.specs.Heap.LeastColumn.{LeastLeaves, bestOf, least-is-left}
+use Rattle.engine.specs.Heap.HeapCalls.{Becomes, ActivateGiven, Falls, RowActivated, MinExtracted}
 use Rattle.engine.specs.Tree.TreeWords.{leaves, Key, keyAt, IsTournament, KeyChanged}
-use Rattle.engine.specs.Labeller.State.{Heaps, withWords, heapIn, windowIn, labelsIn, labelAt, numbersIn, BlockLies, HoldsBlock, HoldsBlocks, bests, callAt, CallDone, ExtractionDone}
+use Rattle.engine.specs.Labeller.State.{Heaps, withWords, heapIn, windowIn, labelsIn, labelAt, numbersIn, BlockLies, HoldsBlock, HoldsBlocks, bests, callAt, CallDone, ExtractionDone, HeapActivated}
 use Rattle.engine.specs.Labeller.LentHeaps.{replaced, window-long, lent-heap, lent-rows, lent-labels, back-here, back-other, back-long}
-
--- ---- an activation does not raise the least sum
-
-module _ (e : Rectangle) (m : Model) (r v : ℕ) where
-  column-falls : (c p s : ℕ) → available e m c ≡ by p s → UpTo s (available e (activate m r v) c)
-  unfolding available activate
-  column-falls c p s h = rw parent-snoc (go (truth (mem c (m .extracted))) h)
-    where
-      a : Activation
-      a = record { row = r; label = v }
-
-      go : Truth (mem c (m .extracted)) → cond (mem c (m .extracted)) nobody (parent e (m .activated) c) ≡ by p s
-          → UpTo s (cond (mem c (m .extracted)) nobody (lesser (parent e (m .activated) c) (through e c a)))
-      go (holds t) q = let bad : nobody ≡ by p s = simp t at q in let z : _≡_ {A = ℕ} 0 1 = cc in absurd (omega arith)
-      go (fails t) q = let f : parent e (m .activated) c ≡ by p s = simp t at q in simp t (upTo-lesser s (parent e (m .activated) c) (through e c a) (rw f (le-refl s)))
-
-  least-falls : (cols c s : ℕ) → leastFrom (available e m) 0 cols ≡ by c s → UpTo s (leastFrom (available e (activate m r v)) 0 cols)
-  least-falls cols c s h = go (leastFrom (available e (activate m r v)) 0 cols) (found-is (available e (activate m r v)) 0 cols)
-    where
-      old : LowestFrom (available e m) 0 cols c s
-      old = rw h at (found-is (available e m) 0 cols)
-
-      low : UpTo s (available e (activate m r v) c)
-      low = column-falls c (old .holder) s (old .here)
-
-      go : (x : Best) → Found (available e (activate m r v)) 0 cols x → UpTo s x
-      go nobody f = rw (f c (old .low) (old .high)) at low
-      go (by d t) f =
-          let u = upTo-is s (available e (activate m r v) c) low in
-          omega (arith, u .3, f .no-less c (u .0) (u .1) (old .low) (old .high) (u .2))
 
 -- an activation that is not refused
 pub accepted-is : (rows : ℕ) (m : Model) (r v : ℕ) → judge rows m (activation r v) ≡ 0 → Activates rows m (activation r v)
@@ -75,18 +45,18 @@ accepted-is rows m r v h = go (cases rows m (activation r v))
     go (extracts q) = absurd (omega arith)
     go (refuses n) = absurd (n h)
 
-state-falls : (s : BlockState) (r v : ℕ) → judge (length (s .block .rows)) (s .trace .model) (activation r v) ≡ 0
-    → (c t : ℕ) → leastOf s ≡ by c t → UpTo t (leastOf (apply s (activation r v)))
-unfolding leastOf apply extend
-state-falls s r v ok c t h =
-    rw (step-activate (s .block .lengths) (length (s .block .rows)) (length (s .block .cols)) (s .trace .model) (activation r v) (accepted-is (length (s .block .rows)) (s .trace .model) r v ok))
-    (least-falls (s .block .lengths) (s .trace .model) r v (length (s .block .cols)) c t h)
-
-key-falls : (b : ℕ) → b < leaves → (z z′ : Best) (x y : ℕ) → ((c t : ℕ) → z ≡ by c t → UpTo t z′) → Key b z y → Key b z′ x → x ≤ y
-key-falls b l nobody nobody x y f k k′ = omega arith
-key-falls b l nobody (by c t) x y f k k′ = omega arith
-key-falls b l (by c t) nobody x y f k k′ = absurd (f c t refl)
-key-falls b l (by c t) (by c′ t′) x y f k k′ = omega (arith, f c t refl)
+-- the key of the lesser of two
+key-lesser : (b : ℕ) → b < leaves → (z z′ : Best) (c t x y : ℕ) → Key b z y → Key b (by c t) x → SameSum z′ (lesser z (by c t)) → Key b z′ (min y x)
+unfolding lesser
+key-lesser b l nobody nobody c t x y k h q = absurd q
+key-lesser b l nobody (by d u) c t x y k h q = (omega arith, omega arith)
+key-lesser b l (by a v) z′ c t x y k h q = go (order t v) z′ q
+  where
+    go : Order t v → (z′ : Best) → SameSum z′ (cond (below t v) (by c t) (by a v)) → Key b z′ (min y x)
+    go (less r m) nobody w = absurd (simp r at w)
+    go (less r m) (by d u) w = let e : u ≡ t = simp r at w in (omega arith, omega arith)
+    go (more r m) nobody w = absurd (simp r at w)
+    go (more r m) (by d u) w = let e : u ≡ v = simp r at w in (omega arith, omega arith)
 
 -- ---- the tournament
 
@@ -95,12 +65,22 @@ pub played-after : (ss : List BlockState) (b : ℕ) (y : BlockState) (tree tree�
 unfolding KeyChanged
 played-after ss b y tree tree′ x h g k = g (bests ss) (bests (set ss b y)) h k (λ i m n. ap leastOf (getD-set-other ss b i y noBlockState n))
 
-pub falls : (ss : List BlockState) (b : ℕ) → b < length ss → (tree : List ℕ) (x r v : ℕ) → b < leaves
-    → judge (length (getD ss b noBlockState .block .rows)) (getD ss b noBlockState .trace .model) (activation r v) ≡ 0
-    → IsTournament (bests ss) tree → Key b (bests (callAt ss b (activation r v)) b) x → x ≤ keyAt tree b
-falls ss b l tree x r v m ok h k =
-    key-falls b m (bests ss b) (bests (callAt ss b (activation r v)) b) x (keyAt tree b)
-    (λ c t q. rw (getD-set-same ss b (apply (getD ss b noBlockState) (activation r v)) noBlockState l) (state-falls (getD ss b noBlockState) r v ok c t q)) (h .leaf b m) k
+-- the key falls to that of the sum, if that is less
+pub played-lower : (ss : List BlockState) (b : ℕ) (y : BlockState) (tree tree′ : List ℕ) (n t x : ℕ) → b < leaves → 0 < n
+    → IsTournament (bests ss) tree → KeyChanged b (min (keyAt tree b) x) tree tree′ → ((p : ℕ) → Key b (by p t) x) → Falls (bests ss b) (bests (set ss b y) b) n t
+    → IsTournament (bests (set ss b y)) tree′
+played-lower ss b y tree tree′ n t x l p h g k f =
+    let q = f .some p in
+    played-after ss b y tree tree′ (min (keyAt tree b) x) h g (key-lesser b l (bests ss b) (bests (set ss b y) b) (q .0) t x (keyAt tree b) (h .leaf b l) (k (q .0)) (q .1))
+
+-- and stays where nothing is inserted
+pub played-same : (ss : List BlockState) (b : ℕ) (y : BlockState) (tree : List ℕ) (n t : ℕ) → n ≡ 0
+    → IsTournament (bests ss) tree → Falls (bests ss b) (bests (set ss b y) b) n t → IsTournament (bests (set ss b y)) tree
+played-same ss b y tree n t z h f = record { size = h .size; leaf = λ i l. go i l (equality i b); played = h .played }
+  where
+    go : (i : ℕ) → i < leaves → Equal i b → Key i (bests (set ss b y) i) (keyAt tree i)
+    go i l (equal _ q) = subst (λ (x : Best). Key i x (keyAt tree i)) (sym (ap (bests (set ss b y)) q ∙ f .none z ∙ ap (bests ss) (sym q))) (h .leaf i l)
+    go i l (differ _ q) = subst (λ (x : Best). Key i x (keyAt tree i)) (sym (ap leastOf (getD-set-other ss b i y noBlockState q))) (h .leaf i l)
 
 -- ---- one block
 
@@ -158,9 +138,12 @@ module _ {h : Heaps} {bs : List Block} {ss : List BlockState} (held : HoldsBlock
     unfolding apply
     call-is k = rw (← tall, ← lies .wide) (sym (extend-agree e (state .block .lengths) (length window) cols same (state .trace) k (sound-of (held .each b l))))
 
+    least-with : (m : Model) → Sound e (length window) cols m → leastFrom (available (state .block .lengths) m) 0 (length (state .block .cols)) ≡ leastFrom (available e m) 0 cols
+    least-with m sound = rw (← lies .wide) (sym (leastFrom-agree e (state .block .lengths) (length window) cols same m (sound .in-rows)))
+
     least-is : leastOf state ≡ leastFrom (available e model) 0 cols
     unfolding leastOf
-    least-is = rw (← lies .wide) (sym (leastFrom-agree e (state .block .lengths) (length window) cols same model (sound-of (held .each b l) .in-rows)))
+    least-is = least-with model (sound-of (held .each b l))
 
     -- the label of row r, in the labels of the block's rows
     label-is : (r : ℕ) → r < length window → getD labels r 0 ≡ label r
@@ -193,10 +176,10 @@ module _ {h : Heaps} {bs : List Block} {ss : List BlockState} (held : HoldsBlock
           })
 
       -- the key of what is found
-      pub found-is-least : (found : code.Lowest) → LeastLeaves lentWords lentRows (x .col0) lentLabels found → bestOf found ≡ bests ss b
+      pub found-is-least : (found : code.Lowest) → LeastLeaves lentWords found → bestOf found ≡ bests ss b
       found-is-least found t =
-          let g : LeastLeaves (heapIn (h .tables) (h .words) b) window col0 labels found = rw (lent-heap held b l x is, lent-rows held b l x is, lent-labels held b l x is, is) at t in
-          g .found cols model (held .each b l) ∙ sym least-is
+          let g : LeastLeaves (heapIn (h .tables) (h .words) b) found = rw (lent-heap held b l x is) at t in
+          least-is-left (heapIn (h .tables) (h .words) b) window col0 cols labels model (held .each b l) found g ∙ sym least-is
 
       -- the words with the block's part changed
       module _ (part : List ℕ) (lent : length part ≡ length (take (x .end - x .slot) (drop (x .slot) (h .words)))) where
@@ -215,6 +198,11 @@ module _ {h : Heaps} {bs : List Block} {ss : List BlockState} (held : HoldsBlock
             go : (c : ℕ) → c < length bs → Equal c b → HoldsBlock after c (getD (callAt ss b k) c noBlockState)
             go c r (equal _ q) = rw (q, back-here held b l x is part lent, getD-set-same ss b (apply state k) noBlockState (omega (arith, count-is))) g
             go c r (differ _ n) = rw (back-other held b l x is part lent c r n, getD-set-other ss b c (apply state k) noBlockState n) (held .each c r)
+
+        -- its least sum afterwards
+        least-after : (k : Call) (m : Model) → apply state k .trace .model ≡ m → Sound e (length window) cols m → bests (callAt ss b k) b ≡ leastFrom (available e m) 0 cols
+        unfolding leastOf apply
+        least-after k m q sound = ap leastOf (getD-set-same ss b (apply state k) noBlockState (omega (arith, count-is))) ∙ rw q (least-with m sound)
 
         -- a call whose model and whose count are those of the heap
         called : (k : Call) (m : Model) (inserted removed : ℕ) → apply state k .trace .model ≡ m → Becomes part window col0 cols labels model m inserted removed
@@ -237,14 +225,17 @@ module _ {h : Heaps} {bs : List Block} {ss : List BlockState} (held : HoldsBlock
               answer-is = g .answer-is ∙ ap extractionOf (sym least-is);
             }
 
-        pub activated : (r inserted removed : ℕ) → judge (length (state .block .rows)) model (activation r (label r)) ≡ 0
-            → Becomes part lentRows (x .col0) (x .cols) lentLabels model (activate model r (getD lentLabels r 0)) inserted removed
-            → CallDone (HoldsBlocks after bs) ss b (activation r (label r)) inserted
+        pub activated : (r : ℕ) (y : Activated) → judge (length (state .block .rows)) model (activation r (label r)) ≡ 0
+            → RowActivated part lentRows (x .col0) (x .cols) lentLabels model (activate model r (getD lentLabels r 0)) y
+            → HeapActivated after bs ss b (activation r (label r)) y
         unfolding extend
-        activated r inserted removed ok t =
+        activated r y ok t =
             let k = activation r (label r) in
-            let g : Becomes part window col0 cols labels model (activate model r (getD labels r 0)) inserted removed = rw (lent-rows held b l x is, lent-labels held b l x is, is) at t in
+            let g : RowActivated part window col0 cols labels model (activate model r (getD labels r 0)) y = rw (lent-rows held b l x is, lent-labels held b l x is, is) at t in
             let a : Activates (length window) model k = rw tall (accepted-is (length (state .block .rows)) model r (label r) ok) in
-            called k (activate model r (label r)) inserted removed
-            (ap (λ (t : Trace). t .model) (call-is k) ∙ rw (step-activate e (length window) cols model k a))
-            (rw (label-is r (omega (arith, a .row-in))) at g)
+            let f : RowActivated part window col0 cols labels model (activate model r (label r)) y = rw (label-is r (omega (arith, a .row-in))) at g in
+            let m : apply state k .trace .model ≡ activate model r (label r) = ap (λ (t : Trace). t .model) (call-is k) ∙ rw (step-activate e (length window) cols model k a) in
+            record {
+              called = called k (activate model r (label r)) (y .inserted) (y .removed) m (f .changed);
+              falls = rw (least-is, least-after k (activate model r (label r)) m (sound-of (f .changed .held))) (f .falls);
+            }

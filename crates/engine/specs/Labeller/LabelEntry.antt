@@ -1,6 +1,6 @@
 -- The entry of the labelling: its judgement, and what is prepared for the loop where nothing is refused.
 --   judged-labels judged-network judged-source    the judgement, cause by cause
---   may-begin can-label                           what is prepared for an accepted network
+--   lengths-are may-begin can-label               what is prepared for an accepted network
 --   refused labelled                              what the entry returns and leaves
 --   plain                                         the same in plain terms
 use mathlib.Core.Path.{_≡_, refl, sym, ap, _∙_}
@@ -22,7 +22,7 @@ use Rattle.definitions.specs.Judgement.{judgeBounds, judgeSource, judgePiece, p
 use Rattle.definitions.specs.Laws.Causes.{passed, no-cause, test-holds, bounds-in}
 use Rattle.basics.specs.Buffers.{buffers-are}
 use Rattle.logic.specs.Tests.{split-at, Equal, equal, differ, equality}
-use Rattle.preparation.specs.Prepared.{matrixOf, tablesOf, maxWords}
+use Rattle.preparation.specs.Prepared.{matrixOf, filledMatrix, tableCount, tablesOf, filledTables, maxWords}
 use Rattle.preparation.specs.Numbering.{Fits}
 use Rattle.labelling_laws.specs.Acceptance.{Accepted, size-passes, suits}
 use Rattle.labelling_laws.specs.Arcs.{blocks-fit}
@@ -103,7 +103,10 @@ module _ (n p : ℕ) (sizes vertices lengths : List ℕ) (source : ℕ) (buffer 
       let three = buffers-are (length sizes) (length vertices) (length lengths) (causes .1 .0) in
       (three .0, three .1, three .2, eqb-true _ _ (test-holds _ 0 (causes .0)))
 
-  fits : Fits p sizes vertices lengths
+  lengths-are : length lengths ≡ lengthPlaces
+  lengths-are = buffers .2
+
+  fits : Fits p sizes vertices
   unfolding judgeLabelling judgeNetwork
   fits =
       let causes = no-cause _ ok in
@@ -112,7 +115,6 @@ module _ (n p : ℕ) (sizes vertices lengths : List ℕ) (source : ℕ) (buffer 
         pieces-in = bounds-in n p (network .0) .1;
         small = λ d l. sizes-pass n sizes vertices lengths 0 p (network .1 .0) d (omega arith) (omega arith);
         vertices-in = buffers .1;
-        lengths-in = buffers .2;
       }
 
   -- the prepared tables, with heaps of zeros, an idle tournament and a blank label buffer
@@ -125,12 +127,16 @@ module _ (n p : ℕ) (sizes vertices lengths : List ℕ) (source : ℕ) (buffer 
   }
 
   -- as the code has them
-  module _ (matrix : List (List ℕ)) (numbers words cleared : List ℕ) (a : matrix ≡ matrixOf p sizes lengths) (b : numbers ≡ tablesOf p sizes vertices)
+  module _ (matrix lent : List (List ℕ)) (numbers zeros words cleared : List ℕ) (rows : length lent ≡ vertexPlaces) (places : length zeros ≡ tableCount)
+      (a : matrix ≡ filledMatrix lent lengths) (b : numbers ≡ filledTables zeros p sizes vertices)
       (f : words ≡ replicate (length {A = ℕ} (replicate maxWords 0)) 0) (e : cleared ≡ replicate (length buffer) unreached) where
     pub may-begin : LabelAllGiven (store matrix numbers (replicate vertexPlaces 0) words (replicate treeWords idle) cleared) source n qs
+    unfolding filledMatrix filledTables
     may-begin =
+        let m : matrix ≡ matrixOf lengths = a ∙ simp (eq-eqb (length lent) vertexPlaces rows, eq-eqb (length lengths) lengthPlaces lengths-are) in
+        let t : numbers ≡ tablesOf p sizes vertices = b ∙ simp (eq-eqb (length zeros) tableCount places) in
         let fresh : words ≡ replicate maxWords 0 = f ∙ ap (λ (k : ℕ). replicate k 0) (length-replicate {A = ℕ} maxWords 0) in
-        rw (a, b, fresh, e, buffers .3) given
+        rw (m, t, fresh, e, buffers .3) given
 
     pub can-label : LabelAllNeeds (store matrix numbers (replicate vertexPlaces 0) words (replicate treeWords idle) cleared) source
     can-label = record { n = n; pieces = qs; given = may-begin }

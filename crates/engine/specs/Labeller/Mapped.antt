@@ -1,27 +1,34 @@
 -- What the prepared tables say of the pieces of a network and of their blocks, in the terms of the labelling's functions.
 --   firstOf first-none first-all    the number of a piece's first block
+--   StandsIn NextIn                 a vertex stands at a place, a word names its first place from some piece on
 --   MappedPiece Mapped              the tables are those of these pieces
 --   mapped                          what is prepared from a lent network that is accepted
-use mathlib.Core.Path.{_≡_, refl, sym, _∙_}
+use mathlib.Core.Path.{_≡_, refl, sym, ap, _∙_}
+use mathlib.Core.Bool.{cond, _&&_}
+use mathlib.Core.Logic.{⊎-elim}
 use mathlib.Core.List.{List}
-use Prim.Native.Nat.{ℕ, zero, suc, pred, _+_, _-_, _*_, _≤_, _<_}
+use Prim.Native.Nat.{ℕ, zero, suc, pred, _+_, _-_, _*_, _/_, _≤_, _<_}
 use native.Mathlib.Nat.{le-refl}
 use native.Mathlib.Omega.{arith}
+use borrow.Author.Tests.{ltb-true}
+use lib.Dec.{leb, ltb}
 use lib.ListN.{getD, length, take, length-map}
 use lib.Seq.{take-length}
 use Rattle.definitions.specs.Limits.{maxVertices, maxPieces, maxSize, vertexPlaces, rowPlaces}
 use Rattle.definitions.specs.Network.{Piece, sizeOf, noPiece}
 use Rattle.definitions.specs.Blocks.{windowsOf, Block, noBlock, blockOf, blocks}
 use Rattle.definitions.specs.Judgement.{pieceAt, piecesOf}
+use Rattle.logic.specs.Tests.{split-at, Truth, holds, fails, truth}
 use Rattle.basics.specs.ListLaws.{Different, every-at}
+use Rattle.basics.specs.ListPlaces.{different-at}
 use Rattle.basics.specs.Sequences.{length-upFrom, getD-each}
-use Rattle.preparation.specs.Prepared.{sizeAt, placementsOf, partsOf, blocksUpTo, firstsOf, rowIn, colsIn, lastIn, tableCount, tablesOf, placeIn, firstIn, sizeIn, vertexIn, piecesIn}
+use Rattle.preparation.specs.Prepared.{sizeAt, placementsOf, partsOf, blocksUpTo, firstsOf, rowIn, colsIn, lastIn, tableCount, tablesOf, startIn, nextIn, firstIn, sizeIn, vertexIn}
 use Rattle.preparation.specs.Placements.{size-small, length-upTo}
 use Rattle.preparation.specs.Numbering.{Fits, noWindow, noPlacement, size-is, sizeOf-is, first-is, firsts-are}
-use Rattle.preparation.specs.PlaceTable.{vertex-at, found-place, place-found}
+use Rattle.preparation.specs.PlaceTable.{StandsAt, vertex-at}
 use Rattle.preparation.specs.Parts.{cols-is, last-is, row-at, placed, block-count, block-of, cols-are, row-vertex-is, column-is}
-use Rattle.preparation.specs.Tables.{NumbersSame, numbers-same, tables-count, place-in, first-in, size-in, vertex-in, pieces-in}
-use Rattle.preparation.specs.PreparationTheorems.{the-count, the-window}
+use Rattle.preparation.specs.Tables.{NumbersSame, numbers-same, tables-count, first-in, size-in, vertex-in}
+use Rattle.preparation.specs.PreparationTheorems.{the-count, the-window, first-place, next-place}
 use Rattle.labelling_laws.specs.Acceptance.{Accepted, Suits, suits}
 use Rattle.labelling_laws.specs.OneBlock.{Fit}
 use Rattle.labelling_laws.specs.Arcs.{blocks-fit}
@@ -41,17 +48,27 @@ pub record MappedPiece (t : Tables) (bs : List Block) (first d : ℕ) (q : Piece
   pub blocks-are : (j : ℕ) → j < 2 * pred (sizeOf q) → getD bs (first + j) noBlock ≡ blockOf q (getD (windowsOf (sizeOf q)) j noWindow)
   pub rows-at : (j : ℕ) → j < 2 * pred (sizeOf q) → rowIn (t .numbers) (first + j) ≡ rowPlaces * d + getD (windowsOf (sizeOf q)) j noWindow .row0
   pub vertex-is : (i : ℕ) → i < sizeOf q → getD (q .vertices) i 0 ≡ vertexIn (t .numbers) (rowPlaces * d + i)
-  -- the place of a vertex
-  pub found : (v i : ℕ) → 1 ≤ v → v ≤ maxVertices → i < sizeOf q → getD (q .vertices) i 0 ≡ v → placeIn (t .numbers) v d ≡ suc i
-  pub there : (v i : ℕ) → 1 ≤ v → v ≤ maxVertices → placeIn (t .numbers) v d ≡ suc i → (i < sizeOf q) × (getD (q .vertices) i 0 ≡ v)
+
+-- v stands at place x of all pieces
+pub record StandsIn (qs : List Piece) (v x : ℕ) : Type 0 where
+  pub piece-in : x / rowPlaces < length qs
+  pub place-in : x - rowPlaces * (x / rowPlaces) < sizeOf (getD qs (x / rowPlaces) noPiece)
+  pub vertex : getD (getD qs (x / rowPlaces) noPiece .vertices) (x - rowPlaces * (x / rowPlaces)) 0 ≡ v
+
+-- a word is 1 + the first place of v in the pieces from piece d on, or 0 if there is none
+pub record NextIn (qs : List Piece) (v d word : ℕ) : Type 0 where
+  pub there : (x : ℕ) → word ≡ suc x → (d ≤ x / rowPlaces) × StandsIn qs v x
+  pub least : (y : ℕ) → d ≤ y / rowPlaces → StandsIn qs v y → (1 ≤ word) × (word ≤ suc y)
 
 pub record Mapped (t : Tables) (qs : List Piece) : Type 0 where
-  pub count : piecesIn (t .numbers) ≡ length qs
   pub few : length qs ≤ maxPieces
   pub numbers-in : length (t .numbers) ≡ tableCount
   pub each : (d : ℕ) → d < length qs → MappedPiece t (blocks qs) (firstOf qs d) d (getD qs d noPiece)
   pub firsts-are : (d : ℕ) → d < length qs → firstIn (t .numbers) d ≡ firstOf qs d
   pub first-next : (d : ℕ) → d < length qs → firstOf qs (suc d) ≡ firstOf qs d + 2 * pred (sizeOf (getD qs d noPiece))
+  -- the places of a vertex, linked
+  pub starts : (v : ℕ) → 1 ≤ v → v ≤ maxVertices → NextIn qs v 0 (startIn (t .numbers) v)
+  pub nexts : (v x : ℕ) → 1 ≤ v → v ≤ maxVertices → StandsIn qs v x → NextIn qs v (x / rowPlaces + 1) (nextIn (t .numbers) x)
   -- the rows and the columns of a block
   pub rows-differ : (b : ℕ) → b < length (blocks qs) → Different (getD (blocks qs) b noBlock .rows)
   pub rows-are : (b r : ℕ) → b < length (blocks qs) → r < length (getD (blocks qs) b noBlock .rows)
@@ -74,7 +91,7 @@ unfolding blocksUpTo
 blocks-rise p sizes d zero = let e : 0 + d ≡ d = omega arith in rw e (le-refl (blocksUpTo p sizes d))
 blocks-rise p sizes d (suc k) = let e : suc k + d ≡ suc (k + d) = omega arith in rw e (omega (arith, blocks-rise p sizes d k))
 
-module _ (n p : ℕ) (sizes vertices lengths : List ℕ) (source : ℕ) (fits : Fits p sizes vertices lengths) (ok : Accepted n (piecesOf p sizes vertices lengths) source) where
+module _ (n p : ℕ) (sizes vertices lengths : List ℕ) (source : ℕ) (fits : Fits p sizes vertices) (ok : Accepted n (piecesOf p sizes vertices lengths) source) where
   abbrev qs : List Piece
   qs = piecesOf p sizes vertices lengths
 
@@ -125,16 +142,73 @@ module _ (n p : ℕ) (sizes vertices lengths : List ℕ) (source : ℕ) (fits : 
         vertex-is = λ i x.
             let y : i < sizeAt p sizes d = rw m at x in
             rw (piece-is d l, vertex-in p sizes vertices (rowPlaces * d + i) (omega arith)) (vertex-at p sizes vertices lengths fits d l i y);
-        found = λ v i a b x e.
-            place-in p sizes vertices v d b a few ∙ place-found p sizes vertices lengths fits d l v a b (rw (piece-is d l) at (suited d l .vertices-differ)) i (rw m at x) (rw (piece-is d l) at e);
-        there = λ v i a b x.
-            let r = found-place p sizes vertices lengths fits d l v a b i (sym (place-in p sizes vertices v d b a few) ∙ x) in (rw m (r .0), rw (piece-is d l) (r .1));
       })
+
+  -- ---- the places of a vertex
+
+  used-in : (d i : ℕ) → i < sizeAt p sizes d → d < p
+  unfolding sizeAt
+  used-in d i l = go (truth (ltb d p)) l
+    where
+      go : Truth (ltb d p) → i < cond (ltb d p && leb (getD sizes d 0) maxSize) (getD sizes d 0) 0 → d < p
+      go (holds t) r = ltb-true d p t
+      go (fails t) r = absurd (omega (arith, rw t at r))
+
+  to-pieces : (v x : ℕ) → StandsAt p sizes vertices v x → StandsIn qs v x
+  to-pieces v x s =
+      let d : ℕ = x / rowPlaces in
+      let i : ℕ = x - rowPlaces * (x / rowPlaces) in
+      let l : x / rowPlaces < p = used-in d i (s .used) in
+      let e : rowPlaces * (x / rowPlaces) + (x - rowPlaces * (x / rowPlaces)) ≡ x = omega arith in
+      record {
+        piece-in = omega (arith, pieces-count);
+        place-in = rw (size-of d l) (s .used);
+        vertex = rw (piece-is d l) (vertex-at p sizes vertices lengths fits d l i (s .used)) ∙ ap (λ (k : ℕ). getD vertices k 0) e ∙ s .vertex;
+      }
+
+  from-pieces : (v x : ℕ) → StandsIn qs v x → StandsAt p sizes vertices v x
+  from-pieces v x s =
+      let d : ℕ = x / rowPlaces in
+      let i : ℕ = x - rowPlaces * (x / rowPlaces) in
+      let l : x / rowPlaces < p = omega (arith, s .piece-in, pieces-count) in
+      let e : rowPlaces * (x / rowPlaces) + (x - rowPlaces * (x / rowPlaces)) ≡ x = omega arith in
+      let r : x - rowPlaces * (x / rowPlaces) < sizeAt p sizes (x / rowPlaces) = rw (size-of d l) at (s .place-in) in
+      record {
+        inside = omega (arith, fits .pieces-in);
+        used = r;
+        vertex = ap (λ (k : ℕ). getD vertices k 0) (sym e) ∙ sym (vertex-at p sizes vertices lengths fits d l i r) ∙ (rw (piece-is d l) at (s .vertex));
+      }
+
+  -- a vertex stands in a piece once
+  later : (v x y : ℕ) → StandsIn qs v x → StandsIn qs v y → suc x ≤ y → x / rowPlaces + 1 ≤ y / rowPlaces
+  unfolding sizeOf
+  later v x y s r l = ⊎-elim (λ (h : x / rowPlaces < y / rowPlaces). omega arith) (λ (h : y / rowPlaces ≤ x / rowPlaces). absurd (same h)) (split-at (x / rowPlaces) (y / rowPlaces))
+    where
+      same : y / rowPlaces ≤ x / rowPlaces → ⊥
+      same h =
+          let e : y / rowPlaces ≡ x / rowPlaces = omega arith in
+          let d : ℕ = x / rowPlaces in
+          let q = getD qs (x / rowPlaces) noPiece in
+          let inside : y - rowPlaces * (x / rowPlaces) < length (getD qs (x / rowPlaces) noPiece .vertices) = rw e at (r .place-in) in
+          let here : getD (getD qs (x / rowPlaces) noPiece .vertices) (y - rowPlaces * (x / rowPlaces)) 0 ≡ v = rw e at (r .vertex) in
+          omega (arith, different-at (q .vertices) (suited d (omega (arith, s .piece-in, pieces-count)) .vertices-differ) (x - rowPlaces * d) (y - rowPlaces * d) (s .place-in) inside (s .vertex ∙ sym here))
+
+  from-start : (v : ℕ) → 1 ≤ v → v ≤ maxVertices → NextIn qs v 0 (startIn (t .numbers) v)
+  from-start v a b =
+      let h = first-place p sizes vertices v a b in
+      record { there = λ x e. (omega arith, to-pieces v x (h .there x e .1)); least = λ y r s. h .least y (omega arith) (from-pieces v y s) }
+
+  from-place : (v x : ℕ) → 1 ≤ v → v ≤ maxVertices → StandsIn qs v x → NextIn qs v (x / rowPlaces + 1) (nextIn (t .numbers) x)
+  from-place v x a b s =
+      let h = next-place p sizes vertices v x a b (from-pieces v x s) in
+      record {
+        there = λ y e. let r = h .there y e in (later v x y s (to-pieces v y (r .1)) (r .0), to-pieces v y (r .1));
+        least = λ y r g. h .least y (omega arith) (from-pieces v y g);
+      }
 
   pub mapped : Mapped t qs
   unfolding firstOf blocksUpTo firstsOf
   mapped = record {
-    count = pieces-in p sizes vertices ∙ sym pieces-count;
     few = omega (arith, pieces-count, fits .pieces-in);
     numbers-in = tables-count p sizes vertices;
     each = λ d l. piece-mapped d (rw pieces-count at l);
@@ -144,6 +218,8 @@ module _ (n p : ℕ) (sizes vertices lengths : List ℕ) (source : ℕ) (fits : 
     first-next = λ d l.
         let m : d < p = rw pieces-count at l in
         omega (arith, first-is p sizes vertices lengths fits d (omega arith), first-is p sizes vertices lengths fits (suc d) (omega arith), size-of d m);
+    starts = from-start;
+    nexts = from-place;
     rows-differ = λ b l. every-at (Fit n) (blocks qs) (blocks-fit n qs (suits n qs (ok .pieces-pass))) b noBlock l .rows-differ;
     rows-are = λ b r l x.
         let w = the-window p sizes vertices lengths fits b l in
@@ -152,7 +228,7 @@ module _ (n p : ℕ) (sizes vertices lengths : List ℕ) (source : ℕ) (fits : 
         let wide : c < colsIn (partsOf p sizes) b = omega (arith, cols-are p sizes vertices lengths fits b (number b l)) in
         let last = last-is p sizes b (number b l) in
         let h = placed p sizes (fits .pieces-in) b (number b l) in
-        let few : getD (placementsOf p sizes) b noPlacement .size ≤ maxSize = rw (h .size-same) (size-small p sizes _) in
+        let few = size-small p sizes (getD (placementsOf p sizes) b noPlacement .piece) in
         let cols = cols-is p sizes b (number b l) in
         let high : lastIn (partsOf p sizes) b < vertexPlaces = omega (arith, last, cols, h .inside .cols-in, h .piece-in, fits .pieces-in) in
         rw (numbers b l .last) (

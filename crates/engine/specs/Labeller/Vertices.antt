@@ -1,15 +1,16 @@
 -- A vertex is settled on the arrays: its label is stored at its place in each piece that has it, and the place is activated.
 --   SettleGiven SettleNeeds VertexActivated SettleLeaves    what the function needs and leaves
 --   PiecesDone                                 the pieces before piece d are done, for given states
---   SettleKeeps settle-begun settle-long settle-done    the same for any states that the arrays hold
+--   doneAt skip reach                          the pieces up to the next place of the vertex
+--   SettleKeeps settle-begun settle-long settle-done settle-few    the same for any states that the arrays hold
 --   vertex-in tables-long place-in             the ranges of the numbers that are read
---   settle-absent place-needs settle-more      a piece that does not have the vertex; one that has it
+--   place-needs settle-count settle-less settle-more    a place of the vertex
 use mathlib.Core.Path.{_≡_, refl, sym, ap, _∙_}
 use mathlib.Core.Bool.{false}
 use mathlib.Core.List.{List, map}
-use mathlib.Core.Logic.{⊎-elim}
+use mathlib.Core.Logic.{⊎-elim, _≢_}
 use mathlib.Core.Option.{some}
-use Prim.Native.Nat.{ℕ, zero, suc, pred, _+_, _-_, _*_, _≤_, _<_}
+use Prim.Native.Nat.{ℕ, zero, suc, pred, _+_, _-_, _*_, _/_, _≤_, _<_}
 use native.Mathlib.Omega.{arith}
 use lib.ListN.{getD, length, set}
 use lib.Seq.{getD-set-same}
@@ -23,18 +24,18 @@ use Rattle.logic.specs.Tests.{split-at}
 use Rattle.basics.specs.ListLaws.{every-at}
 use Rattle.splits.specs.Windows.{Inside, windows-inside}
 use Rattle.basics.specs.PiecePlaces.{block-rows}
-use Rattle.preparation.specs.Prepared.{rowIn, rowCountIn, tableCount, placeIn, firstIn, sizeIn, piecesIn}
+use Rattle.preparation.specs.Prepared.{rowIn, rowCountIn, tableCount, startIn, nextIn, firstIn, sizeIn}
 use Rattle.preparation.specs.Placements.{length-windowsOf}
 use Rattle.preparation.specs.Numbering.{noWindow}
 use Rattle.labelling_laws.specs.VertexPlaces.{place-of}
 use Rattle.labelling_laws.specs.OneBlock.{Welcome}
 use Rattle.engine.specs.Labeller.State.{Tables, Arrays, changed, Running}
-use Rattle.engine.specs.Labeller.Counts.{placeInserts}
+use Rattle.engine.specs.Labeller.Counts.{placeInserts, vertexInserts}
 use Rattle.engine.specs.Labeller.BlockCalls.{accepted-is, count-is, block-same}
 use Rattle.engine.specs.Labeller.Begins.{relabelled}
 use Rattle.engine.specs.Labeller.Insertions.{insertedIn}
 use Rattle.engine.specs.Labeller.Descent.{blockIn}
-use Rattle.engine.specs.Labeller.Mapped.{firstOf, MappedPiece, Mapped, first-none, first-all}
+use Rattle.engine.specs.Labeller.Mapped.{firstOf, StandsIn, NextIn, MappedPiece, Mapped, first-none, first-all}
 use Rattle.engine.specs.Labeller.Settling.{PieceDone, piece-absent, Partly, partly-begun, partly-more, partly-all}
 use Rattle.engine.specs.Labeller.Activations.{Spot, SpotReady, ActivatePlaceNeeds, ActivatePlaceLeaves}
 
@@ -64,6 +65,29 @@ pub record PiecesDone (holds : List BlockState → Type 0) (qs : List Piece) (v 
   pub states : List BlockState
   pub kept : holds states
   pub partly : Partly v l ss (firstOf qs d) states inserted
+
+-- how many of n pieces stand before the place that a word names; all of them where it names none
+unfoldable pub doneAt : ℕ → ℕ → ℕ
+doneAt n zero = n
+doneAt n (suc x) = x / rowPlaces
+
+all-done : (n link : ℕ) → link ≡ 0 → doneAt n link ≡ n
+unfolding doneAt
+all-done n link e = rw e
+
+done-before : (n link : ℕ) → 0 < link → doneAt n link ≡ (link - 1) / rowPlaces
+unfolding doneAt
+done-before n zero l = absurd (omega arith)
+done-before n (suc x) l = let e : suc x - 1 ≡ x = omega arith in rw e
+
+done-further : {qs : List Piece} {v : ℕ} (n d link : ℕ) → NextIn qs v d link → d ≤ n → d ≤ doneAt n link
+unfolding doneAt
+done-further n d zero next l = l
+done-further n d (suc x) next l = next .there x refl .0
+
+climb : (P : ℕ → Type 0) (d k : ℕ) → ((e : ℕ) → d ≤ e → e < d + k → P e → P (e + 1)) → P d → P (d + k)
+climb P d zero more x = let e : d + 0 ≡ d = omega arith in rw e x
+climb P d (suc k) more x = let e : d + suc k ≡ d + k + 1 = omega arith in rw e (more (d + k) (omega arith) (omega arith) (climb P d k (λ f a b. more f a (omega arith)) x))
 
 -- ---- the rows of the blocks before a piece
 
@@ -127,16 +151,13 @@ module _ {a : Arrays} {v l : ℕ} {qs : List Piece} {ss : List BlockState} (give
       are : (j : ℕ) → j < 2 * pred (sizeOf q) → blockIn (firstOf qs d) (x .states) j .block ≡ blockOf q (getD (windowsOf (sizeOf q)) j noWindow)
       are j r = sym (block-same (x .kept .held) (firstOf qs d + j)) ∙ piece .blocks-are j r
 
-      piece-missing : placeIn numbers v d ≡ 0 → PiecesDone (Running now (blocks qs)) qs v l ss (d + 1) n
+      piece-missing : ((i : ℕ) → i < sizeOf q → getD (q .vertices) i 0 ≢ v) → PiecesDone (Running now (blocks qs)) qs v l ss (d + 1) n
       piece-missing missing =
           let e : n + 0 ≡ n = omega arith in
           rw e at (more (Running now (blocks qs)) n (Running now (blocks qs)) 0 x (x .states) (x .kept)
-          (piece-absent q (firstOf qs d) v l (x .states) (piece .small) are (λ i a z. omega (arith, piece .found v i (given .low) (given .high) a z))))
+          (piece-absent q (firstOf qs d) v l (x .states) (piece .small) are missing))
 
-      module _ (i : ℕ) (here : placeIn numbers v d ≡ suc i) where
-        there : (i < sizeOf q) × (getD (q .vertices) i 0 ≡ v)
-        there = piece .there v i (given .low) (given .high) here
-
+      module _ (i : ℕ) (there : (i < sizeOf q) × (getD (q .vertices) i 0 ≡ v)) where
         abbrev spot : Spot
         spot = record { piece = q; base = rowPlaces * d; vertex = v; label = l }
 
@@ -168,11 +189,11 @@ module _ {a : Arrays} {v l : ℕ} {qs : List Piece} {ss : List BlockState} (give
                 let w = every-at (Welcome v l) ss (given .welcome) b noBlockState (omega (arith, count-is (given .running .held))) in
                 accepted-is _ _ k l (w k (rw (← same) row)) .row-new
 
-        stored : Running (changed a (set rowLabels (rowPlaces * d + i) l) words tree) (blocks qs) (x .states)
-        stored = relabelled (x .kept) (rowPlaces * d + i) l new
+        relabelled-there : Running (changed a (set rowLabels (rowPlaces * d + i) l) words tree) (blocks qs) (x .states)
+        relabelled-there = relabelled (x .kept) (rowPlaces * d + i) l new
 
-        ready : SpotReady t (set rowLabels (rowPlaces * d + i) l) (firstOf qs d) (sizeOf q) i (x .states) spot
-        ready = record {
+        ready-there : SpotReady t (set rowLabels (rowPlaces * d + i) l) (firstOf qs d) (sizeOf q) i (x .states) spot
+        ready-there = record {
           stands = record {
             small = piece .small;
             apart = piece .apart;
@@ -188,13 +209,53 @@ module _ {a : Arrays} {v l : ℕ} {qs : List Piece} {ss : List BlockState} (give
               (every-at (Welcome v l) ss (given .welcome) (firstOf qs d + j) noBlockState (omega (arith, piece .blocks-in, count-is (given .running .held))));
         }
 
+        -- the same for the place's number of all pieces
+        stored : (y : ℕ) → rowPlaces * d + i ≡ y → Running (changed a (set rowLabels y l) words tree) (blocks qs) (x .states)
+        stored y e = rw e at relabelled-there
+
+        ready : (y : ℕ) → rowPlaces * d + i ≡ y → SpotReady t (set rowLabels y l) (firstOf qs d) (sizeOf q) i (x .states) spot
+        ready y e = rw e at ready-there
+
+  -- ---- the pieces up to the next place
+
+  module _ (rowLabels words tree : List ℕ) (n : ℕ) where
+    skip : (d k : ℕ) → d + k ≤ length qs
+        → ((e : ℕ) → d ≤ e → e < d + k → (i : ℕ) → i < sizeOf (getD qs e noPiece) → getD (getD qs e noPiece .vertices) i 0 ≢ v)
+        → PiecesDone (Running (changed a rowLabels words tree) (blocks qs)) qs v l ss d n
+        → PiecesDone (Running (changed a rowLabels words tree) (blocks qs)) qs v l ss (d + k) n
+    skip d k r none x =
+        climb (λ (e : ℕ). PiecesDone (Running (changed a rowLabels words tree) (blocks qs)) qs v l ss e n) d k
+        (λ e c b y. piece-missing e (omega arith) rowLabels words tree n y (none e c b)) x
+
+    standing : (e i : ℕ) → e < length qs → i < sizeOf (getD qs e noPiece) → getD (getD qs e noPiece .vertices) i 0 ≡ v → StandsIn qs v (rowPlaces * e + i)
+    standing e i r s h =
+        let small = mapped .each e r .small in
+        let f : (rowPlaces * e + i) / rowPlaces ≡ e = omega arith in
+        let g : rowPlaces * e + i - rowPlaces * e ≡ i = omega arith in
+        record { piece-in = rw f r; place-in = rw (f, g) s; vertex = rw (f, g) h }
+
+    reach : (d link : ℕ) → d ≤ length qs → NextIn qs v d link → PiecesDone (Running (changed a rowLabels words tree) (blocks qs)) qs v l ss d n
+        → PiecesDone (Running (changed a rowLabels words tree) (blocks qs)) qs v l ss (doneAt (length qs) link) n
+    unfolding doneAt
+    reach d zero r next x =
+        let e : d + (length qs - d) ≡ length qs = omega arith in
+        rw e at (skip d (length qs - d) (omega arith)
+        (λ f a b i s h. let small = mapped .each f (omega arith) .small in omega (arith, next .least (rowPlaces * f + i) (omega arith) (standing f i (omega arith) s h))) x)
+    reach d (suc y) r next x =
+        let m = next .there y refl in
+        let inside = m .1 .piece-in in
+        let e : d + (y / rowPlaces - d) ≡ y / rowPlaces = omega (arith, m .0) in
+        rw e at (skip d (y / rowPlaces - d) (omega (arith, m .0))
+        (λ f a b i s h. let small = mapped .each f (omega (arith, m .0)) .small in omega (arith, m .0, next .least (rowPlaces * f + i) (omega arith) (standing f i (omega (arith, m .0)) s h))) x)
+
 -- ---- the function's loop
 
--- a is how the arrays were; the first d pieces are done, whatever they held
-pub record SettleKeeps (a : Arrays) (rowLabels words tree : List ℕ) (v l d inserted : ℕ) : Type 0 where
-  pub upTo : d ≤ piecesIn (a .heaps .tables .numbers)
-  pub count : inserted ≤ placeInserts * d
-  pub before : (qs : List Piece) (ss : List BlockState) → SettleGiven a v l qs ss → PiecesDone (Running (changed a rowLabels words tree) (blocks qs)) qs v l ss d inserted
+-- a is how the arrays were; the pieces before that of the place that the word names are done, whatever they held
+pub record SettleKeeps (a : Arrays) (rowLabels words tree : List ℕ) (v l link inserted : ℕ) : Type 0 where
+  pub count : inserted ≤ placeInserts * doneAt maxPieces link
+  pub stands : (qs : List Piece) (ss : List BlockState) → SettleGiven a v l qs ss → (x : ℕ) → link ≡ suc x → StandsIn qs v x
+  pub before : (qs : List Piece) (ss : List BlockState) → SettleGiven a v l qs ss
+      → PiecesDone (Running (changed a rowLabels words tree) (blocks qs)) qs v l ss (doneAt (length qs) link) inserted
 
 module _ {a : Arrays} {v l : ℕ} (needs : SettleNeeds a v l) where
   abbrev numbers′ : List ℕ
@@ -203,85 +264,112 @@ module _ {a : Arrays} {v l : ℕ} (needs : SettleNeeds a v l) where
   abbrev map-given : Mapped (a .heaps .tables) (needs .pieces)
   map-given = needs .given .mapped
 
-  pub settle-begun : SettleKeeps a (a .heaps .rowLabels) (a .heaps .words) (a .tree) v l 0 0
-  settle-begun = record { upTo = omega arith; count = omega arith; before = λ qs ss g. pieces-begun g }
+  pub settle-begun : SettleKeeps a (a .heaps .rowLabels) (a .heaps .words) (a .tree) v l (startIn numbers′ v) 0
+  settle-begun = record {
+    count = omega arith;
+    stands = λ qs ss g x e. g .mapped .starts v (g .low) (g .high) .there x e .1;
+    before = λ qs ss g. reach g (a .heaps .rowLabels) (a .heaps .words) (a .tree) 0 0 (startIn numbers′ v) (omega arith) (g .mapped .starts v (g .low) (g .high)) (pieces-begun g);
+  }
 
   pub vertex-in : (1 ≤ v) × (v ≤ maxVertices)
   vertex-in = (needs .given .low, needs .given .high)
 
-  -- how long the tables are, and how many pieces there are
-  pub tables-long : (piecesIn numbers′ ≤ maxPieces) × (length numbers′ ≡ tableCount)
-  tables-long = (omega (arith, map-given .count, map-given .few), map-given .numbers-in)
+  pub tables-long : length numbers′ ≡ tableCount
+  tables-long = map-given .numbers-in
 
-  module _ {rowLabels words tree : List ℕ} {d n : ℕ} (keeps : SettleKeeps a rowLabels words tree v l d n) where
-    abbrev now′ : PiecesDone (Running (changed a rowLabels words tree) (blocks (needs .pieces))) (needs .pieces) v l (needs .states) d n
-    now′ = keeps .before (needs .pieces) (needs .states) (needs .given)
-
+  module _ {rowLabels words tree : List ℕ} {link n : ℕ} (keeps : SettleKeeps a rowLabels words tree v l link n) where
     pub settle-long : (length rowLabels ≡ length (a .heaps .rowLabels)) × (length words ≡ length (a .heaps .words)) × (length tree ≡ length (a .tree))
     settle-long =
-        let x = now′ .kept in
+        let x = keeps .before (needs .pieces) (needs .states) (needs .given) .kept in
         let y = needs .given .running in
         (x .held .labels-are ∙ sym (y .held .labels-are), x .held .words-are ∙ sym (y .held .words-are), x .played .size ∙ sym (y .played .size))
 
-    pub settle-done : piecesIn numbers′ ≤ d → SettleLeaves a (changed a rowLabels words tree) v l n
-    settle-done end qs ss g =
-        pieces-all g (Running (changed a rowLabels words tree) (blocks qs)) d n (omega (arith, keeps .upTo, g .mapped .count)) (keeps .before qs ss g)
+    pub settle-done : link ≡ 0 → SettleLeaves a (changed a rowLabels words tree) v l n
+    settle-done end qs ss g = pieces-all g (Running (changed a rowLabels words tree) (blocks qs)) (doneAt (length qs) link) n (all-done (length qs) link end) (keeps .before qs ss g)
 
-    module _ (less : d < piecesIn numbers′) where
-      in-pieces : (qs : List Piece) → Mapped (a .heaps .tables) qs → d < length qs
-      in-pieces qs m = omega (arith, m .count)
+    pub settle-few : link ≡ 0 → n ≤ vertexInserts
+    settle-few end = omega (arith, keeps .count, all-done maxPieces link end)
 
-      pub settle-absent : placeIn numbers′ v d ≡ 0 → SettleKeeps a rowLabels words tree v l (d + 1) n
-      settle-absent missing = record {
-        upTo = omega arith;
-        count = omega (arith, keeps .count);
-        before = λ qs ss g. piece-missing g d (in-pieces qs (g .mapped)) rowLabels words tree n (keeps .before qs ss g) missing;
+    module _ (some : 0 < link) where
+      -- the place, its piece, and the place in the piece
+      abbrev y : ℕ
+      y = link - 1
+
+      abbrev d : ℕ
+      d = (link - 1) / rowPlaces
+
+      abbrev i : ℕ
+      i = link - 1 - rowPlaces * ((link - 1) / rowPlaces)
+
+      whole : rowPlaces * d + i ≡ y
+      whole = omega arith
+
+      module _ {qs : List Piece} {ss : List BlockState} (g : SettleGiven a v l qs ss) where
+        here : StandsIn qs v y
+        here = keeps .stands qs ss g (link - 1) (omega arith)
+
+        there : (i < sizeOf (getD qs d noPiece)) × (getD (getD qs d noPiece .vertices) i 0 ≡ v)
+        there = (here .place-in, here .vertex)
+
+        was : PiecesDone (Running (changed a rowLabels words tree) (blocks qs)) qs v l ss d n
+        was = rw (done-before (length qs) link some) at (keeps .before qs ss g)
+
+      pub settle-count : n ≤ placeInserts * d
+      settle-count = rw (done-before maxPieces link some) at (keeps .count)
+
+      abbrev here-is : MappedPiece (a .heaps .tables) (blocks (needs .pieces)) (firstOf (needs .pieces) d) d (getD (needs .pieces) d noPiece)
+      here-is = map-given .each d (here (needs .given) .piece-in)
+
+      pub place-in : (d < maxPieces) × (sizeIn numbers′ d ≤ maxSize) × (i < sizeIn numbers′ d) × (y < length rowLabels)
+      place-in =
+          let r = here (needs .given) in (
+            omega (arith, r .piece-in, map-given .few),
+            omega (arith, here-is .size-is, here-is .small),
+            omega (arith, here-is .size-is, r .place-in),
+            omega (arith, was (needs .given) .kept .held .labels-are, r .piece-in, map-given .few),
+          )
+
+      abbrev asked : Arrays
+      asked = changed a (set rowLabels (link - 1) l) words tree
+
+      pub place-needs : ActivatePlaceNeeds asked (firstIn numbers′ d) (sizeIn numbers′ d) i
+      place-needs =
+          let g = needs .given in
+          let r = here g .piece-in in
+          rw (map-given .firsts-are d r, here-is .size-is) (record {
+            blocks = blocks (needs .pieces);
+            states = was g .states;
+            spot = _;
+            running = stored g d r rowLabels words tree n (was g) i (there g) (link - 1) whole;
+            ready = ready g d r rowLabels words tree n (was g) i (there g) (link - 1) whole;
+          })
+
+      next : (qs : List Piece) (ss : List BlockState) → SettleGiven a v l qs ss → NextIn qs v (d + 1) (nextIn numbers′ (link - 1))
+      next qs ss g = g .mapped .nexts v (link - 1) (g .low) (g .high) (here g)
+
+      further : d + 1 ≤ doneAt maxPieces (nextIn numbers′ (link - 1))
+      further = done-further maxPieces (d + 1) (nextIn numbers′ (link - 1)) (next (needs .pieces) (needs .states) (needs .given)) (omega (arith, place-in .0))
+
+      pub settle-less : maxPieces - doneAt maxPieces (nextIn numbers′ (link - 1)) < maxPieces - doneAt maxPieces link
+      settle-less = rw (done-before maxPieces link some) (omega (arith, further, place-in .0))
+
+      pub settle-more : (words′ tree′ : List ℕ) (m : ℕ) → m ≤ placeInserts
+          → ActivatePlaceLeaves asked (changed a (set rowLabels (link - 1) l) words′ tree′) (firstIn numbers′ d) (sizeIn numbers′ d) i m
+          → SettleKeeps a (set rowLabels (link - 1) l) words′ tree′ v l (nextIn numbers′ (link - 1)) (n + m)
+      settle-more words′ tree′ m few c = record {
+        count = omega (arith, settle-count, further);
+        stands = λ qs ss g x e. next qs ss g .there x e .1;
+        before = λ qs ss g. reach g (set rowLabels (link - 1) l) words′ tree′ (n + m) (d + 1) (nextIn numbers′ (link - 1)) (omega (arith, here g .piece-in)) (next qs ss g) (go qs ss g);
       }
-
-      module _ (some : 0 < placeIn numbers′ v d) where
-        -- the vertex's place in the piece
-        abbrev i : ℕ
-        i = placeIn numbers′ v d - 1
-
-        here : placeIn numbers′ v d ≡ suc (placeIn numbers′ v d - 1)
-        here = omega arith
-
-        abbrev here-is : MappedPiece (a .heaps .tables) (blocks (needs .pieces)) (firstOf (needs .pieces) d) d (getD (needs .pieces) d noPiece)
-        here-is = map-given .each d (in-pieces (needs .pieces) map-given)
-
-        pub place-in : (sizeIn numbers′ d ≤ maxSize) × (i < sizeIn numbers′ d) × (rowPlaces * d + i < length rowLabels)
-        place-in =
-            let r = here-is .there v i (needs .given .low) (needs .given .high) here in (
-              omega (arith, here-is .size-is, here-is .small),
-              omega (arith, here-is .size-is, r .0),
-              omega (arith, now′ .kept .held .labels-are, here-is .small, r .0, map-given .few, map-given .count),
-            )
-
-        abbrev asked : Arrays
-        asked = changed a (set rowLabels (rowPlaces * d + i) l) words tree
-
-        pub place-needs : ActivatePlaceNeeds asked (firstIn numbers′ d) (sizeIn numbers′ d) i
-        place-needs = rw (map-given .firsts-are d (in-pieces (needs .pieces) map-given), here-is .size-is) (record {
-          blocks = blocks (needs .pieces);
-          states = now′ .states;
-          spot = _;
-          running = stored (needs .given) d (in-pieces (needs .pieces) map-given) rowLabels words tree n now′ i here;
-          ready = ready (needs .given) d (in-pieces (needs .pieces) map-given) rowLabels words tree n now′ i here;
-        })
-
-        pub settle-more : (words′ tree′ : List ℕ) (m : ℕ) → m ≤ placeInserts
-            → ActivatePlaceLeaves asked (changed a (set rowLabels (rowPlaces * d + i) l) words′ tree′) (firstIn numbers′ d) (sizeIn numbers′ d) i m
-            → SettleKeeps a (set rowLabels (rowPlaces * d + i) l) words′ tree′ v l (d + 1) (n + m)
-        settle-more words′ tree′ m few c = record { upTo = omega arith; count = omega (arith, keeps .count); before = λ qs ss g. go qs ss g (keeps .before qs ss g) }
-          where
-            go : (qs : List Piece) (ss : List BlockState) → (g : SettleGiven a v l qs ss) → PiecesDone (Running (changed a rowLabels words tree) (blocks qs)) qs v l ss d n
-                → PiecesDone (Running (changed a (set rowLabels (rowPlaces * d + i) l) words′ tree′) (blocks qs)) qs v l ss (d + 1) (n + m)
-            go qs ss g y =
-                let r : d < length qs = in-pieces qs (g .mapped) in
-                let b : ActivatePlaceLeaves asked (changed a (set rowLabels (rowPlaces * d + i) l) words′ tree′) (firstOf qs d) (sizeOf (getD qs d noPiece)) i m
-                = rw (g .mapped .firsts-are d r, g .mapped .each d r .size-is) at c in
-                let z = b (blocks qs) (y .states) (record { piece = getD qs d noPiece; base = rowPlaces * d; vertex = v; label = l })
-                (stored g d r rowLabels words tree n y i here)
-                (ready g d r rowLabels words tree n y i here) in
-                more g d r (Running (changed a rowLabels words tree) (blocks qs)) n
-                (Running (changed a (set rowLabels (rowPlaces * d + i) l) words′ tree′) (blocks qs)) m y (z .states) (z .kept) (z .done)
+        where
+          go : (qs : List Piece) (ss : List BlockState) → SettleGiven a v l qs ss
+              → PiecesDone (Running (changed a (set rowLabels (link - 1) l) words′ tree′) (blocks qs)) qs v l ss (d + 1) (n + m)
+          go qs ss g =
+              let r : d < length qs = here g .piece-in in
+              let b : ActivatePlaceLeaves asked (changed a (set rowLabels (link - 1) l) words′ tree′) (firstOf qs d) (sizeOf (getD qs d noPiece)) i m
+              = rw (g .mapped .firsts-are d r, g .mapped .each d r .size-is) at c in
+              let z = b (blocks qs) (was g .states) (record { piece = getD qs d noPiece; base = rowPlaces * d; vertex = v; label = l })
+              (stored g d r rowLabels words tree n (was g) i (there g) (link - 1) whole)
+              (ready g d r rowLabels words tree n (was g) i (there g) (link - 1) whole) in
+              more g d r (Running (changed a rowLabels words tree) (blocks qs)) n
+              (Running (changed a (set rowLabels (link - 1) l) words′ tree′) (blocks qs)) m (was g) (z .states) (z .kept) (z .done)

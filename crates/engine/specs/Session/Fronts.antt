@@ -2,9 +2,9 @@
 --   Front front-none front-next       what stands at the first k places, the rest as it was
 --   front-length front-padded         its length, and a filler behind the front
 --   length-answers answers-back       the answers
---   front-kept kept-padded            the kept intervals
+--   firstListed front-kept kept-padded    the kept intervals
 use mathlib.Core.Path.{_≡_, refl, sym, ap, _∙_}
-use mathlib.Core.List.{List, [], _∷_, _++_, flatMap, append-nil}
+use mathlib.Core.List.{List, [], _∷_, _++_, map, map-append, flatMap, append-nil}
 use Prim.Native.Nat.{ℕ, suc, _+_, _*_, _-_, _≤_}
 use native.Mathlib.Nat.{zero-add, add-zero, mul-zero, mul-suc}
 use native.Mathlib.Numerals.{add-one}
@@ -15,11 +15,11 @@ use Rattle.definitions.specs.Limits.{answerSize, intervalSize, unusedInterval}
 use Rattle.definitions.specs.Lists.{upFrom, padded}
 use Rattle.definitions.specs.Model.{Answer}
 use Rattle.definitions.specs.Entries.{answerNumbers, answerAt, answersIn, intervalNumbers}
-use Rattle.definitions.specs.HeapWords.{countOf, intervalAt, span, kept}
+use Rattle.definitions.specs.HeapWords.{countOf, listedAt, listedIn}
 use Rattle.basics.specs.Buffers.{flatMap-snoc, front-sets, front-full}
-use Rattle.basics.specs.Sequences.{map-next}
+use Rattle.basics.specs.Sequences.{upFrom-snoc, map-next}
 use Rattle.engine.specs.Strides.{group-behind}
-use Rattle.engine.specs.Heap.WordLaws.{Word, span-cut, numbers-long}
+use Rattle.engine.specs.Heap.WordLaws.{Word, numbers-long}
 
 -- the numbers xs are those of the first k places
 pub record Front (width k : ℕ) (before xs now : List ℕ) : Type 0 where
@@ -78,19 +78,24 @@ answers-back (x ∷ xs) rest = ap (λ (l : List Answer). x ∷ l) (map-next (ans
         let h = group-behind answerSize (answerNumbers x) behind j in
         rw (simp add-zero at (h 0 refl), h 1 refl, h 2 refl)
 
+-- the first k intervals of the words, with their bests
+abbrev pub firstListed : List ℕ → ℕ → List ℕ
+firstListed w k = flatMap intervalNumbers (map (listedAt w) (upFrom 0 k))
+
 -- one interval more
-pub front-kept : (w before now xs : List ℕ) (k : ℕ) → xs ≡ intervalNumbers (intervalAt w k) → Front intervalSize k before (flatMap intervalNumbers (span w 0 k)) now
-    → intervalSize * k + intervalSize ≤ length before → Front intervalSize (k + 1) before (flatMap intervalNumbers (span w 0 (k + 1))) (sets now (intervalSize * k) xs)
-unfolding span
+pub front-kept : (w before now xs : List ℕ) (k : ℕ) → xs ≡ intervalNumbers (listedAt w k) → Front intervalSize k before (firstListed w k) now
+    → intervalSize * k + intervalSize ≤ length before → Front intervalSize (k + 1) before (firstListed w (k + 1)) (sets now (intervalSize * k) xs)
 front-kept w before now xs k e g h =
-    rw (span-cut w 0 k 1, zero-add k, flatMap-snoc intervalNumbers (span w 0 k) (intervalAt w k), e)
-    (front-next intervalSize k before (flatMap intervalNumbers (span w 0 k)) now (intervalNumbers (intervalAt w k)) (numbers-long (intervalAt w k)) g h)
+    let more : map (listedAt w) (upFrom 0 (k + 1)) ≡ map (listedAt w) (upFrom 0 k) ++ listedAt w k ∷ [] =
+    rw (add-one k, upFrom-snoc 0 k, zero-add k) (map-append (listedAt w) (upFrom 0 k) (k ∷ [])) in
+    rw (more, flatMap-snoc intervalNumbers (map (listedAt w) (upFrom 0 k)) (listedAt w k), e)
+    (front-next intervalSize k before (firstListed w k) now (intervalNumbers (listedAt w k)) (numbers-long w k) g h)
 
 -- all of them, and the filler of unused places
-pub kept-padded : (w before now rest : List ℕ) (k n : ℕ) → Front intervalSize k before (flatMap intervalNumbers (span w 0 k)) now → k ≡ n → Word (countOf w) n
+pub kept-padded : (w before now rest : List ℕ) (k n : ℕ) → Front intervalSize k before (firstListed w k) now → k ≡ n → Word (countOf w) n
     → intervalSize * n ≤ length before → length now ≡ length before
     → rest ≡ replicate (length (take (length now - intervalSize * n) (drop (intervalSize * n) now))) unusedInterval
-    → take (intervalSize * n) now ++ (rest ++ drop (length now - intervalSize * n) (drop (intervalSize * n) now)) ≡ padded (length before) unusedInterval (flatMap intervalNumbers (kept w))
-unfolding kept
+    → take (intervalSize * n) now ++ (rest ++ drop (length now - intervalSize * n) (drop (intervalSize * n) now)) ≡ padded (length before) unusedInterval (flatMap intervalNumbers (listedIn w))
+unfolding listedIn
 kept-padded w before now rest k n f e c h m r =
-    rw (← c .is) (front-padded intervalSize n (length now - intervalSize * n) before (flatMap intervalNumbers (span w 0 n)) now rest unusedInterval (rw e at f) h (omega arith) r)
+    rw (← c .is) (front-padded intervalSize n (length now - intervalSize * n) before (firstListed w n) now rest unusedInterval (rw e at f) h (omega arith) r)

@@ -1,12 +1,13 @@
 -- What an accepted session returns and leaves, in plain terms, from its equation with the definition.
 use mathlib.Core.Path.{_≡_, refl, sym, ap, _∙_}
-use mathlib.Core.List.{List}
+use mathlib.Core.List.{List, map}
 use Prim.Native.Nat.{ℕ}
 use Rattle.definitions.specs.PlainPromises.{PlainSession}
 use Rattle.definitions.specs.declared.SessionAnswer.{SessionAnswer}
 use Rattle.definitions.specs.Lists.{padded}
-use Rattle.definitions.specs.Model.{Model, first-columns-rise, in-order-already, Call, trace}
+use Rattle.definitions.specs.Model.{Model, intervals, first-columns-rise, in-order-already, withBest, HasBest, each-has-best, Call, trace}
 use Rattle.definitions.specs.Entries.{AfterSession, rectangleOf, judgeSession, callsOf, answersOf, answersIn, intervalsOf, session}
+use Rattle.basics.specs.ListLaws.{every-map, map-back}
 use Rattle.logic.specs.Tests.{Equal, equal, differ, equality}
 use Rattle.heap_laws.specs.AllCalls.{trace-each, trace-allowed, trace-extractions}
 use Rattle.heap_laws.specs.HeapTheorems.{intervals-once, inserted-removed-kept}
@@ -40,9 +41,13 @@ module _ (rows cols count : ℕ) (lengths calls answers₀ intervals₀ : List �
           let a = ap (λ (x : AfterSession). x .answer) (rw t at e) in
           let s : answersIn answers count ≡ trace (rectangleOf lengths) rows cols ks .answers = rw (ap (λ (x : AfterSession). x .answers) (rw t at e)) answers-are in
           record {
+            listed = _;
             kept = _;
-            written = ap (λ (x : AfterSession). x .intervals) (rw t at e) ∙ ap intervalsOf (in-order-already (rectangleOf lengths) cols model);
+            written = ap (λ (x : AfterSession). x .intervals) (rw t at e) ∙ ap (λ vs. intervalsOf (map (withBest (rectangleOf lengths) model) vs)) (in-order-already (rectangleOf lengths) cols model);
+            each-listed = map-back (withBest (rectangleOf lengths) model) (λ u. u .interval) (intervals (rectangleOf lengths) cols model) (λ v. refl);
             kept-are = refl;
+            bests = every-map (λ v. HasBest (rectangleOf lengths) model (withBest (rectangleOf lengths) model v)) (HasBest (rectangleOf lengths) model)
+                (withBest (rectangleOf lengths) model) (intervals (rectangleOf lengths) cols model) (λ v h. h) (each-has-best (rectangleOf lengths) cols model);
             firsts-rise = first-columns-rise (rectangleOf lengths) cols model;
             once = intervals-once (rectangleOf lengths) rows cols ks .1;
             rising = intervals-once (rectangleOf lengths) rows cols ks .0;

@@ -39,7 +39,7 @@ slice-write-parts-6 c = simp length-set (omega arith)
 returns : tie.Need-returns
 returns c =
     let a = c .args in
-    (six (a .parts .now) (partNumbers * a .b) (a .slot) (rowPlaces * a .d + a .row0) (a .m - (a .col0 + a .cols)) (a .cols) (rowPlaces * a .d + (a .col0 + a .cols - 1)) (a .rows), search needs)
+    (six (a .parts .now) (partNumbers * a .b) (a .slot) (rowPlaces * a .d + a .row0) (rowPlaces - (a .col0 + a .cols)) (a .cols) (rowPlaces * a .d + (a .col0 + a .cols - 1)) (a .rows), search needs)
 
 pub store-part-spec : {M : Type 1} → statement M
 store-part-spec =

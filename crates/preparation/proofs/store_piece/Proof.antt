@@ -19,7 +19,7 @@ use Rattle.preparation.proofs.store_piece.Tie as tie
 
 abbrev Inv-loop : tie.InvT-loop
 Inv-loop parts₀ splits b slot d m begin next₀ s₀ parts next s =
-    (s ≤ pred m) × (length parts ≡ length parts₀) × (next ≤ slot + splitWords * s) × Stored parts₀ parts b slot next (map (place d m) (windows (take s (splitsOf m))))
+    (s ≤ pred m) × (length parts ≡ length parts₀) × (next ≤ slot + splitWords * s) × Stored parts₀ parts b slot next (map (place d) (windows (take s (splitsOf m))))
 
 abbrev μ-loop : tie.MeasureT-loop
 μ-loop parts₀ splits b slot d m begin next₀ s₀ parts next s = m - s
@@ -29,11 +29,11 @@ module _ (m : ℕ) (small : m ≤ maxSize) (list : List ℕ) (begin s : ℕ) (c 
   cut-here : Cut m (splitOf c)
   cut-here = rw (split-is m small list begin s c l e f h) (cut-at m small s l)
 
-  split-more : (before mid out : List ℕ) (b slot next end d : ℕ) → Stored before mid b slot next (map (place d m) (windows (take s (splitsOf m))))
-      → Stored mid out (b + 2 * s) next end (splitPlacements d m (splitOf c)) → Stored before out b slot end (map (place d m) (windows (take (s + 1) (splitsOf m))))
+  split-more : (before mid out : List ℕ) (b slot next end d : ℕ) → Stored before mid b slot next (map (place d) (windows (take s (splitsOf m))))
+      → Stored mid out (b + 2 * s) next end (splitPlacements d (splitOf c)) → Stored before out b slot end (map (place d) (windows (take (s + 1) (splitsOf m))))
   split-more before mid out b slot next end d p q =
-      let n : 2 * s ≡ length (map (place d m) (windows (take s (splitsOf m)))) = sym (length-placements m small d s (omega arith)) in
-      let q′ : Stored mid out (b + length (map (place d m) (windows (take s (splitsOf m))))) next end (splitPlacements d m (getD (splitsOf m) s noSplit)) = rw (n, split-is m small list begin s c l e f h) at q in
+      let n : 2 * s ≡ length (map (place d) (windows (take s (splitsOf m)))) = sym (length-placements m small d s (omega arith)) in
+      let q′ : Stored mid out (b + length (map (place d) (windows (take s (splitsOf m))))) next end (splitPlacements d (getD (splitsOf m) s noSplit)) = rw (n, split-is m small list begin s c l e f h) at q in
       rw (placements-next m small d s l) (stored-more before mid out b slot next end _ _ p q′)
 
 loop-holds : tie.Need-loop-holds Inv-loop μ-loop
@@ -50,7 +50,7 @@ store-split-requires c κs =
     let p = c .before .before .before .before .before .before .before in
     let l = c .before .before .before .loop in
     let k = cut-here (p .args .m) (p .pre .4) (p .args .splits .now) _ (l .s) _ (omega arith) (p .pre .0) (c .before .before .before .before .first-split .ensures) (c .before .split-in .ensures) in
-    (omega arith, omega arith, omega arith, omega arith, k .before, k .after, k .inside)
+    (omega arith, omega arith, omega arith, k .before, k .after, omega (arith, k .inside))
 
 loop-again : tie.Need-loop-again Inv-loop μ-loop
 loop-again c =

@@ -1,9 +1,10 @@
 -- `store_place` stores where the vertex is within bounds, as its definition tests it.
 use mathlib.Core.Bool.{and-false}
 use native.Mathlib.Numerals.{add-one}
+use native.Mathlib.Omega.{arith}
 use borrow.Author.Tests.{le-leb, lt-leb}
 use borrow.Author.Needs.{needs}
-use lib.ListN.{List·getD-eq-default}
+use lib.ListN.{List·getD-eq-default, length-set}
 use Rattle.definitions.specs.Limits.{maxVertices}
 use Rattle.definitions.specs.Lists.{within}
 use Rattle.preparation.specs.Prepared.{storePlace}
@@ -24,10 +25,13 @@ returns-3 c = simp (lt-leb _ maxVertices (c .if3 .taken), and-false)
 
 returns-4 : tie.Need-returns-4
 unfolding storePlace within
-returns-4 c = simp (le-leb 1 _ (c .before .if2 .left), le-leb _ maxVertices (c .if3 .left), add-one)
+returns-4 c = simp (le-leb 1 _ (c .before .before .if2 .left), le-leb _ maxVertices (c .before .if3 .left), add-one)
+
+slice-write-places-2 : tie.Need-slice-write-places-2
+slice-write-places-2 c = simp length-set (omega arith)
 
 pub store-place-spec : {M : Type 1} → statement M
 store-place-spec =
-    tie.close (tie.spec (λ c. search needs) (λ c. search needs) returns (λ c. search needs) (λ c. search needs) returns-2 returns-3
-    (λ c. search needs) (λ c. search needs) (λ c. search needs) (λ c. search needs) (λ c. search needs) (λ c. search needs)
-    (λ c. search needs) (λ c. search needs) (λ c. search needs) returns-4)
+    tie.close (tie.spec returns (λ c. search needs) (λ c. search needs) returns-2 returns-3 (λ c. search needs) (λ c. search needs) (λ c. search needs)
+    (λ c. search needs) (λ c. search needs) (λ c. search needs) (λ c. search needs) (λ c. search needs) (λ c. search needs) (λ c. search needs)
+    (λ c. search needs) (λ c. search needs) slice-write-places-2 (λ c. search needs) returns-4)

@@ -16,8 +16,8 @@ returns c =
     let a = c .before .before .before .before .before .before .before .before .before .before .before .before .before .args in
     let one = c .before .before .before .before .before .before .before .before .store-part in
     let two = c .before .before .store-part2 in
-    let first : Placement = place (a .d) (a .m) (record { row0 = a .c .first; rows = a .c .middle - a .c .first; col0 = a .c .middle; cols = a .c .end - a .c .middle }) in
-    let second : Placement = place (a .d) (a .m) (record { row0 = a .c .middle; rows = a .c .end - a .c .middle; col0 = a .c .first; cols = a .c .middle - a .c .first }) in
+    let first : Placement = place (a .d) (record { row0 = a .c .first; rows = a .c .middle - a .c .first; col0 = a .c .middle; cols = a .c .end - a .c .middle }) in
+    let second : Placement = place (a .d) (record { row0 = a .c .middle; rows = a .c .end - a .c .middle; col0 = a .c .first; cols = a .c .middle - a .c .first }) in
     stored-more (a .parts .now) (one .last .0) (two .last .0) (a .b) (a .slot) (one .result) (two .result) (first ∷ []) (second ∷ [])
     (record { stored = one .ensures .0; end = omega (arith, one .ensures .1) })
     (record { stored = two .ensures .0; end = omega (arith, two .ensures .1) })

@@ -1,12 +1,36 @@
--- `put_columns` writes an interval that is made.
+-- `put_columns` writes an interval that is made, with the best of its columns.
+use native.Mathlib.Omega.{arith}
 use borrow.Author.Needs.{needs}
+use Rattle.engine.specs.Heap.RowBest.{drawn-is}
 use Rattle.engine.proofs.heap.put_columns.Statement.{statement}
 use Rattle.engine.proofs.heap.put_columns.Tie as tie
 
+best-in-requires : tie.Need-best-in-requires
+best-in-requires c κs = let p = c .before .before .pre .2 in (p .row-in, c .before .before .pre .1, p .columns)
+
+sum-at-requires : tie.Need-sum-at-requires
+sum-at-requires c κs =
+    let p = c .before .before .before .pre .2 in
+    let b = c .best-in .ensures in
+    (p .row-in, omega (arith, p .row-in, p .labelled), omega (arith, p .columns, b .high), p .fits _ (b .low) (b .high))
+
+cast-t12 : tie.Need-cast-t12
+cast-t12 c = omega (arith, c .before .before .before .before .pre .2 .small)
+
+cast-t13 : tie.Need-cast-t13
+cast-t13 c = let p = c .before .before .before .before .pre in omega (arith, p .1, p .2 .columns)
+
+cast-t15 : tie.Need-cast-t15
+cast-t15 c = let p = c .before .before .before .before .pre in omega (arith, p .1, p .2 .columns)
+
+cast-t16 : tie.Need-cast-t16
+cast-t16 c = let p = c .before .before .before .before .pre in omega (arith, p .2 .columns, c .before .best-in .ensures .high)
+
 returns : tie.Need-returns
-returns c = c .before .before .put .ensures
+returns c =
+    rw (← drawn-is _ _ _ _ _ _ _ _ (c .before .before .before .before .before .best-in .ensures) (c .before .before .before .before .sum-at .ensures)) (c .before .before .put .ensures)
 
 pub put-columns-spec : {M : Type 1} → statement M
 put-columns-spec =
-    tie.close (tie.spec (λ c. search needs) (λ c. search needs) (λ c. search needs) (λ c. search needs) (λ c κs. search needs)
-    (λ c. search needs) returns)
+    tie.close (tie.spec best-in-requires sum-at-requires cast-t12 cast-t13 (λ c. search needs) cast-t15 cast-t16
+    (λ c κs. search needs) (λ c. search needs) returns)

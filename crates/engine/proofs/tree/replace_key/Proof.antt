@@ -1,5 +1,5 @@
 -- `tree::replace_key` meets its contract. The invariant: as after the leaf's store, every word is right but perhaps the one above t.
-use mathlib.Core.Path.{_≡_, sym, _∙_}
+use mathlib.Core.Path.{_≡_, sym, ap, _∙_}
 use mathlib.Core.List.{List}
 use mathlib.Core.Logic.{⊎-elim}
 use Prim.Native.Nat.{ℕ, _+_, _-_, _/_, _≤_, min}
@@ -7,7 +7,7 @@ use native.Mathlib.Omega.{arith}
 use borrow.Author.Needs.{needs}
 use lib.ListN.{length, length-set}
 use lib.Seq.{getD-set-same}
-use Rattle.engine.specs.Tree.Pairs.{sibling, pair}
+use Rattle.engine.specs.Tree.Pairs.{sibling, pair, sibling-xor}
 use Rattle.engine.specs.Tree.TreeWords.{levels, leaves, treeWords, at}
 use Rattle.engine.specs.Tree.Climb.{Climbing, climb-start, climb-on, climb-done, AtLevel, level-above, level-on}
 use Rattle.engine.proofs.tree.replace_key.Statement.{statement}
@@ -28,7 +28,8 @@ loop-again c =
     let l = c .before .before .before .loop in
     let k = l .inv .2 in
     let m : 2 ≤ l .t = level-above (l .counter) (l .t) (omega arith) k in
-    let e : c .if1 .lesser ≡ min (at (l .tree) (l .t)) (at (l .tree) (sibling (l .t))) = ⊎-elim (λ w. omega arith) (λ w. omega arith) (c .if1 .came) in (
+    let other = ap (at (l .tree)) (sibling-xor (l .t)) in
+    let e : c .if1 .lesser ≡ min (at (l .tree) (l .t)) (at (l .tree) (sibling (l .t))) = ⊎-elim (λ w. omega (arith, other)) (λ w. omega (arith, other)) (c .if1 .came) in (
       omega arith,
       simp length-set (l .inv .1),
       level-on (l .counter) (l .t) (omega arith) k,
@@ -45,8 +46,17 @@ returns c =
     let m = rw k at (l .inv .2) in
     climb-done _ _ _ _ _ (l .inv .4 (a .tree .now) (climb-start _ _ _ (p .0) (p .1))) (λ _ n _. absurd (omega arith))
 
+mul-other : tie.Need-mul-other Inv-loop μ-loop
+mul-other c =
+    let l = c .before .loop in
+    omega (arith, sibling-xor (l .t), level-above (l .counter) (l .t) (omega arith) (l .inv .2))
+
+slice-read-other : tie.Need-slice-read-other Inv-loop μ-loop
+slice-read-other c =
+    let l = c .before .before .loop in
+    omega (arith, sibling-xor (l .t), l .inv .1, level-above (l .counter) (l .t) (omega arith) (l .inv .2))
+
 pub replace-key-spec : {M : Type 1} → statement M
 replace-key-spec =
-    tie.close (tie.spec Inv-loop μ-loop (λ c. search needs) (λ c. search needs) (λ c. search needs) loop-holds (λ c. search needs)
-    (λ c. search needs) (λ c. search needs) (λ c. search needs) (λ c. search needs) (λ c. search needs) (λ c. search needs)
-    (λ c. search needs) (λ c. search needs) loop-again (λ c. search needs) returns)
+    tie.close (tie.spec Inv-loop μ-loop (λ c. search needs) (λ c. search needs) (λ c. search needs) loop-holds mul-other
+    slice-read-other (λ c. search needs) (λ c. search needs) (λ c. search needs) (λ c. search needs) loop-again (λ c. search needs) returns)
