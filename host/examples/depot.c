@@ -1,4 +1,4 @@
-/* What a unit's firmware does: reads a plan, labels its gates, and asks one block a few calls. */
+/* What a unit's firmware does: reads plans, labels gates, prints a route leg by leg, and asks one block a few calls. */
 #include <stdio.h>
 #include <string.h>
 
@@ -13,16 +13,35 @@ static const char PLAN[] =
     "     5     6     2     0\n"
     "     1\n";
 
+/* two districts that share gate 2, and a question with a target: from gate 1 to gate 3 */
+static const char ROUTE_PLAN[] =
+    "     3     2\n"
+    "     2     1     2\n"
+    "     0     5\n"
+    "     6     0\n"
+    "     2     2     3\n"
+    "     0     7\n"
+    "     8     0\n"
+    "     1     3\n";
+
 /* static: a small stack need not hold them */
 static uint32_t sizes[RABDZHINE_SIZES], vertices[RABDZHINE_VERTICES], lengths[RABDZHINE_LENGTHS], labels[RABDZHINE_LABELS];
+static uint32_t arcs[RABDZHINE_ROUTE_PLACES];
 static uint32_t rectangle[RABDZHINE_RECTANGLE], calls[RABDZHINE_CALLS], answers[RABDZHINE_ANSWERS], intervals[RABDZHINE_INTERVALS];
 static uint8_t listing[RABDZHINE_LISTING];
 
-static int label_plan(void) {
-    rabdzhine_read_answer plan = rabdzhine_read_text((const uint8_t *)PLAN, strlen(PLAN), sizes, RABDZHINE_SIZES,
+static rabdzhine_read_answer read_plan(const char *text) {
+    rabdzhine_read_answer plan = rabdzhine_read_text((const uint8_t *)text, strlen(text), sizes, RABDZHINE_SIZES,
                                                      vertices, RABDZHINE_VERTICES, lengths, RABDZHINE_LENGTHS);
     if (plan.number != 0) {
         printf("refused %u\n", (unsigned)plan.number);
+    }
+    return plan;
+}
+
+static int label_plan(void) {
+    rabdzhine_read_answer plan = read_plan(PLAN);
+    if (plan.number != 0) {
         return 1;
     }
     rabdzhine_label_answer done = rabdzhine_label_network(plan.n, plan.p, sizes, RABDZHINE_SIZES, vertices, RABDZHINE_VERTICES,
@@ -36,6 +55,23 @@ static int label_plan(void) {
         } else {
             printf("gate %u: %u m\n", (unsigned)v, (unsigned)labels[v - 1]);
         }
+    }
+    return 0;
+}
+
+static int print_route(void) {
+    rabdzhine_read_answer plan = read_plan(ROUTE_PLAN);
+    if (plan.number != 0) {
+        return 1;
+    }
+    rabdzhine_route_answer done = rabdzhine_route_network(plan.n, plan.p, sizes, RABDZHINE_SIZES, vertices, RABDZHINE_VERTICES,
+                                                          lengths, RABDZHINE_LENGTHS, plan.source, plan.target,
+                                                          arcs, RABDZHINE_ROUTE_PLACES);
+    printf("number %u, gate %u to gate %u: %u m, %u legs\n", (unsigned)done.number, (unsigned)plan.source, (unsigned)plan.target,
+           (unsigned)done.label, (unsigned)done.arcs);
+    for (uint32_t k = 0; k < done.arcs; k++) {
+        const uint32_t *arc = arcs + RABDZHINE_ARC_SIZE * k;
+        printf("gate %u to gate %u in district %u: %u m\n", (unsigned)arc[0], (unsigned)arc[1], (unsigned)arc[2], (unsigned)arc[3]);
     }
     return 0;
 }
@@ -70,6 +106,9 @@ int main(void) {
     printf("place 2: %u, place 4: %u, line [", (unsigned)rabdzhine_write_field(line, RABDZHINE_LINE, 2, 42),
            (unsigned)rabdzhine_write_field(line, RABDZHINE_LINE, 4, 42));
     printf("%s]\n", (const char *)line);
+    if (print_route() != 0) {
+        return 1;
+    }
     size_t written = rabdzhine_write_listing((const uint8_t *)PLAN, strlen(PLAN), listing, RABDZHINE_LISTING);
     fwrite(listing, 1, written, stdout);
     return 0;

@@ -10,7 +10,7 @@
  * The library needs memcpy and memset of whoever links it, and a stack of the size stated below for the entry that is called. It has no
  * memory of its own that can be written, so entries may be called at the same time, each on its own stack and buffers.
  *
- * Words: a vertex is a gate, a piece is a district, to activate is to tell, to extract is to take, a parent is an owner,
+ * Words: a vertex is a gate, a piece is a district, an arc is a leg, to activate is to tell, to extract is to take, a parent is an owner,
  * inserted is brought in, removed is dropped.
  *
  * Refusals:
@@ -23,6 +23,7 @@
  *   6   a length is above 999,999 (no field of a text is), or a diagonal is not 0
  *   7   a block fails its check
  *   8   the source is outside 1 to n
+ *   12  the target is outside 1 to n
  * and in the answer to one call of a session:
  *   9   kind is not 1 or 2, or the told row is out of range
  *   10  the row is already told
@@ -40,22 +41,32 @@ extern "C" {
 #endif
 
 /* The sizes of the lent buffers, in elements. */
-#define RABDZHINE_SIZES 16       /* gates of each district */
-#define RABDZHINE_VERTICES 384   /* 24 gates for each district */
-#define RABDZHINE_LENGTHS 9216   /* 24 rows of 24 lengths for each district */
-#define RABDZHINE_LABELS 256     /* label of gate v at v - 1 */
-#define RABDZHINE_RECTANGLE 576  /* 24 rows of 24 lengths */
-#define RABDZHINE_CALLS 192      /* kind, row, value of each of 64 calls */
-#define RABDZHINE_ANSWERS 192    /* code, column, sum of each answer */
-#define RABDZHINE_INTERVALS 120  /* the numbers of 24 intervals */
-#define RABDZHINE_LINE 36        /* bytes of a line: four fields of nine columns */
-#define RABDZHINE_LISTING 4901   /* bytes of the longest listing */
+#define RABDZHINE_SIZES 16           /* gates of each district */
+#define RABDZHINE_VERTICES 384       /* 24 gates for each district */
+#define RABDZHINE_LENGTHS 9216       /* 24 rows of 24 lengths for each district */
+#define RABDZHINE_LABELS 256         /* label of gate v at v - 1 */
+#define RABDZHINE_ROUTE_PLACES 1020  /* the numbers of 255 legs */
+#define RABDZHINE_RECTANGLE 576      /* 24 rows of 24 lengths */
+#define RABDZHINE_CALLS 192          /* kind, row, value of each of 64 calls */
+#define RABDZHINE_ANSWERS 192        /* code, column, sum of each answer */
+#define RABDZHINE_INTERVALS 120      /* the numbers of 24 intervals */
+#define RABDZHINE_LINE 36            /* bytes of a line: four fields of nine columns */
+#define RABDZHINE_LISTING 9472       /* bytes of the longest listing, that of 255 legs */
 
 /* The numbers of an interval: owner, first column, last column, best column (the lowest one of least sum in it), best sum (that sum). */
 #define RABDZHINE_INTERVAL_SIZE 5
 
 /* What every place of an unused interval holds. A best sum may be 255 too, but no owner is: an unused interval is known by its owner. */
 #define RABDZHINE_UNUSED UINT32_C(255)
+
+/* The most legs of a route: it passes no gate twice. */
+#define RABDZHINE_MAX_ARCS 255
+
+/* The numbers of a leg: from gate, to gate, district (from 1), metres. */
+#define RABDZHINE_ARC_SIZE 4
+
+/* The target that the reader returns where the question has none. */
+#define RABDZHINE_NO_TARGET UINT32_C(4294967295)
 
 /* The label of a gate that no run reaches, and of a place above n. */
 #define RABDZHINE_UNREACHED UINT32_C(4294967295)
@@ -76,15 +87,17 @@ extern "C" {
 #define RABDZHINE_STACK_READ_TEXT 5120
 #define RABDZHINE_STACK_CHECK_NETWORK 5120
 #define RABDZHINE_STACK_LABEL_NETWORK 180224
+#define RABDZHINE_STACK_ROUTE_NETWORK 180224
 #define RABDZHINE_STACK_RUN_SESSION 7168
 #define RABDZHINE_STACK_WRITE_LISTING 229376
 
-/* On a refusal `number` is its number and the counts are 0. */
+/* On a refusal `number` is its number and all else is 0. */
 typedef struct {
     uint32_t number;
     uint32_t n;      /* gates */
     uint32_t p;      /* districts */
     uint32_t source;
+    uint32_t target; /* RABDZHINE_NO_TARGET if the question has none */
 } rabdzhine_read_answer;
 
 typedef struct {
@@ -93,6 +106,12 @@ typedef struct {
     uint32_t extracted; /* takes */
     uint32_t inserted;  /* intervals brought in */
 } rabdzhine_label_answer;
+
+typedef struct {
+    uint32_t number;
+    uint32_t label; /* metres from the source to the target, or RABDZHINE_UNREACHED */
+    uint32_t arcs;  /* legs */
+} rabdzhine_route_answer;
 
 typedef struct {
     uint32_t number;
@@ -114,7 +133,7 @@ uint32_t rabdzhine_write_field(uint8_t *line, size_t line_len, size_t place, uin
 
 /*
  * Reads a plan: 16 sizes, 384 gates, 9,216 lengths, unused places 0.
- * Returns 0 with n, p and the source. 1 and 2 leave the buffers; 3 to 8 leave 0 in every place of them.
+ * Returns 0 with n, p, the source and the target. 1 and 2 leave the buffers; 3 to 8 and 12 leave 0 in every place of them.
  */
 rabdzhine_read_answer rabdzhine_read_text(const uint8_t *text, size_t text_len,
                                           uint32_t *sizes, size_t sizes_len,
@@ -143,6 +162,19 @@ rabdzhine_label_answer rabdzhine_label_network(uint32_t n, uint32_t p,
                                                uint32_t *labels, size_t labels_len);
 
 /*
+ * Finds the shortest run from the source to the target, leg by leg. It judges the network again, then the source, then the target.
+ * Returns 0 with the target's label and the number of legs; arcs then holds the legs in order, each as from gate, to gate, district,
+ * metres, unused places 0. They join up, pass no gate twice, and their metres add up to the label. To a target that no run reaches,
+ * and to the source itself, there are none. A refusal, 1, 4 to 8 or 12, leaves arcs.
+ */
+rabdzhine_route_answer rabdzhine_route_network(uint32_t n, uint32_t p,
+                                               const uint32_t *sizes, size_t sizes_len,
+                                               const uint32_t *vertices, size_t vertices_len,
+                                               const uint32_t *lengths, size_t lengths_len,
+                                               uint32_t source, uint32_t target,
+                                               uint32_t *arcs, size_t arcs_len);
+
+/*
  * Runs 0 to 64 calls on the heap of one block of 1 to 24 rows and columns, from a fresh heap. Row i of the rectangle starts at place 24 * i.
  * A call is kind (1 tell, 2 take), row, value; its answer is code (0, 50 or 9 to 11), column, sum.
  * Returns 0 with intervals brought in and dropped; answers then holds an answer for each call, unused places 0, and intervals the kept
@@ -156,8 +188,9 @@ rabdzhine_session_answer rabdzhine_run_session(uint32_t rows, uint32_t cols, uin
                                                uint32_t *intervals, size_t intervals_len);
 
 /*
- * Writes what the program `labels` writes for this text, the line of a refusal included, to the front of out.
- * Returns how many bytes it wrote; the bytes after them stay. If out_len is not 4,901 it returns 0 and leaves out.
+ * Writes what the program `labels` writes for this text, the line of a refusal included, to the front of out: the labels of all gates, or
+ * the route if the question has a target. Returns how many bytes it wrote; the bytes after them stay. If out_len is not 9,472 it
+ * returns 0 and leaves out.
  */
 size_t rabdzhine_write_listing(const uint8_t *text, size_t text_len, uint8_t *out, size_t out_len);
 

@@ -4,7 +4,7 @@
 //! `include/rabdzhine.h` says what each entry returns and leaves in each lent buffer, and lists the refusals.
 //!
 //! ```
-//! use rabdzhine::{label_network, read_text, ReadAnswer, LABELS, LENGTHS, SIZES, UNREACHED, VERTICES};
+//! use rabdzhine::{label_network, read_text, ReadAnswer, LABELS, LENGTHS, NO_TARGET, SIZES, UNREACHED, VERTICES};
 //!
 //! // two districts of two gates each, which share gate 2
 //! let text = b"     3     2
@@ -18,7 +18,7 @@
 //! ";
 //! let (mut sizes, mut vertices, mut lengths) = ([0; SIZES], [0; VERTICES], [0; LENGTHS]);
 //! let plan = read_text(text, &mut sizes, &mut vertices, &mut lengths);
-//! assert_eq!(plan, ReadAnswer { number: 0, n: 3, p: 2, source: 1 });
+//! assert_eq!(plan, ReadAnswer { number: 0, n: 3, p: 2, source: 1, target: NO_TARGET });
 //!
 //! let mut labels = [0; LABELS];
 //! let answer = label_network(plan.n, plan.p, &sizes, &vertices, &lengths, plan.source, &mut labels);
@@ -38,6 +38,12 @@ pub const VERTICES: usize = 384;
 pub const LENGTHS: usize = 9216;
 /// Places of the buffer of labels: gate v at v - 1.
 pub const LABELS: usize = 256;
+/// Places of the buffer of a route: the numbers of 255 legs.
+pub const ROUTE_PLACES: usize = 1020;
+/// The most legs of a route: it passes no gate twice.
+pub const MAX_ARCS: usize = 255;
+/// Numbers of a leg: from gate, to gate, district (from 1), metres.
+pub const ARC_SIZE: usize = 4;
 /// Places of a session's rectangle: 24 rows of 24.
 pub const RECTANGLE: usize = 576;
 /// Places of a session's calls: kind, row and value of each.
@@ -52,8 +58,10 @@ pub const INTERVAL_SIZE: usize = 5;
 pub const UNUSED: u32 = 255;
 /// Bytes of a line: four fields of nine columns.
 pub const LINE: usize = 36;
-/// Bytes of the longest listing.
-pub const LISTING: usize = 4901;
+/// Bytes of the longest listing, that of 255 legs.
+pub const LISTING: usize = 9472;
+/// The target that [`read_text`] returns where the question has none.
+pub const NO_TARGET: u32 = u32::MAX;
 /// The label of a gate that no run reaches, and of a place above n.
 pub const UNREACHED: u32 = u32::MAX;
 /// The largest length, in metres: it fills a field of a text.
@@ -73,6 +81,8 @@ pub const STACK_READ_TEXT: usize = 5120;
 pub const STACK_CHECK_NETWORK: usize = 5120;
 /// Bytes of stack for [`label_network`].
 pub const STACK_LABEL_NETWORK: usize = 180_224;
+/// Bytes of stack for [`route_network`].
+pub const STACK_ROUTE_NETWORK: usize = 180_224;
 /// Bytes of stack for [`run_session`].
 pub const STACK_RUN_SESSION: usize = 7168;
 /// Bytes of stack for [`write_listing`].
@@ -90,6 +100,8 @@ pub struct ReadAnswer {
     pub p: u32,
     /// the gate to label from
     pub source: u32,
+    /// the gate that a route is asked to, [`NO_TARGET`] if there is none
+    pub target: u32,
 }
 
 /// What the labelling returns. On a refusal all but `number` is 0.
@@ -104,6 +116,18 @@ pub struct LabelAnswer {
     pub extracted: u32,
     /// intervals brought in
     pub inserted: u32,
+}
+
+/// What a route returns. On a refusal all but `number` is 0.
+#[repr(C)]
+#[derive(Clone, Copy, Debug, PartialEq, Eq)]
+pub struct RouteAnswer {
+    /// 0, or the number of the refusal
+    pub number: u32,
+    /// metres from the source to the target, or [`UNREACHED`]
+    pub label: u32,
+    /// legs
+    pub arcs: u32,
 }
 
 /// What a session returns. On a refusal all but `number` is 0.
@@ -190,6 +214,65 @@ pub fn label_network(
     }
 }
 
+/// Finds the shortest run from the source to the target. Its legs stand in `arcs` in order, [`ARC_SIZE`] numbers each: they join up, and
+/// their metres add up to the label. A refusal leaves `arcs`.
+///
+/// ```
+/// use rabdzhine::{read_text, route_network, RouteAnswer, ARC_SIZE, LENGTHS, ROUTE_PLACES, SIZES, VERTICES};
+///
+/// // two districts of two gates each, which share gate 2; the question has a target
+/// let text = b"     3     2
+///      2     1     2
+///      0   250
+///    300     0
+///      2     2     3
+///      0   120
+///    130     0
+///      3     1
+/// ";
+/// let (mut sizes, mut vertices, mut lengths) = ([0; SIZES], [0; VERTICES], [0; LENGTHS]);
+/// let plan = read_text(text, &mut sizes, &mut vertices, &mut lengths);
+/// assert_eq!((plan.source, plan.target), (3, 1));
+///
+/// let mut arcs = [0; ROUTE_PLACES];
+/// let answer =
+///     route_network(plan.n, plan.p, &sizes, &vertices, &lengths, plan.source, plan.target, &mut arcs);
+/// assert_eq!(answer, RouteAnswer { number: 0, label: 430, arcs: 2 });
+///
+/// let mut route = arcs.chunks(ARC_SIZE).take(answer.arcs as usize);
+/// assert_eq!(route.next(), Some(&[3, 2, 2, 130][..]));
+/// assert_eq!(route.next(), Some(&[2, 1, 1, 300][..]));
+/// assert_eq!(route.next(), None);
+/// ```
+#[allow(clippy::too_many_arguments)] // they are the entry's
+pub fn route_network(
+    n: u32,
+    p: u32,
+    sizes: &[u32],
+    vertices: &[u32],
+    lengths: &[u32],
+    source: u32,
+    target: u32,
+    arcs: &mut [u32],
+) -> RouteAnswer {
+    unsafe {
+        raw::rabdzhine_route_network(
+            n,
+            p,
+            sizes.as_ptr(),
+            sizes.len(),
+            vertices.as_ptr(),
+            vertices.len(),
+            lengths.as_ptr(),
+            lengths.len(),
+            source,
+            target,
+            arcs.as_mut_ptr(),
+            arcs.len(),
+        )
+    }
+}
+
 /// Runs calls on the heap of one block. The kept intervals stand in `intervals` by rising first column, [`INTERVAL_SIZE`] numbers each. A
 /// refusal leaves `answers` and `intervals`.
 ///
@@ -235,7 +318,8 @@ pub fn run_session(
     }
 }
 
-/// Writes what the program `labels` writes for this text. Returns how many bytes.
+/// Writes what the program `labels` writes for this text: the labels of all gates, or the route if the question has a target. Returns
+/// how many bytes.
 pub fn write_listing(text: &[u8], out: &mut [u8]) -> usize {
     unsafe { raw::rabdzhine_write_listing(text.as_ptr(), text.len(), out.as_mut_ptr(), out.len()) }
 }

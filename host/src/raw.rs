@@ -1,6 +1,6 @@
 //! The entries as the library exports them: a slice is a pointer and a length.
 
-use crate::{LabelAnswer, ReadAnswer, SessionAnswer};
+use crate::{LabelAnswer, ReadAnswer, RouteAnswer, SessionAnswer};
 
 extern "C" {
     pub fn rabdzhine_read_field(
@@ -48,6 +48,21 @@ extern "C" {
         labels: *mut u32,
         labels_len: usize,
     ) -> LabelAnswer;
+
+    pub fn rabdzhine_route_network(
+        n: u32,
+        p: u32,
+        sizes: *const u32,
+        sizes_len: usize,
+        vertices: *const u32,
+        vertices_len: usize,
+        lengths: *const u32,
+        lengths_len: usize,
+        source: u32,
+        target: u32,
+        arcs: *mut u32,
+        arcs_len: usize,
+    ) -> RouteAnswer;
 
     pub fn rabdzhine_run_session(
         rows: u32,

@@ -22,6 +22,9 @@ row 1 owns columns 1 to 1, best column 1, sum 6
 check 0
 field 0 4
 place 2: 0, place 4: 4, line [                         42         ]
+number 0, gate 1 to gate 3: 12 m, 2 legs
+gate 1 to gate 2 in district 1: 5 m
+gate 2 to gate 3 in district 2: 7 m
 ";
 
 #[test]

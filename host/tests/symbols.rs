@@ -4,11 +4,12 @@ use std::collections::BTreeSet;
 use std::path::Path;
 use std::process::Command;
 
-const ENTRIES: [&str; 7] = [
+const ENTRIES: [&str; 8] = [
     "rabdzhine_check_network",
     "rabdzhine_label_network",
     "rabdzhine_read_field",
     "rabdzhine_read_text",
+    "rabdzhine_route_network",
     "rabdzhine_run_session",
     "rabdzhine_write_field",
     "rabdzhine_write_listing",

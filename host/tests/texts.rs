@@ -1,9 +1,11 @@
 //! The text reader and the listing against the model, on sound and on damaged texts.
 
 use rabdzhine::{read_text, write_listing, ReadAnswer, LENGTHS, LISTING, SIZES, VERTICES};
-use reference::damage::{long_lengths, scratched, spoiled, text, texts, DEPOT, DEPOT_LISTING};
+use reference::damage::{chain_and, long_lengths, scratched, spoiled, text, texts};
+use reference::damage::{CHAIN_LISTING, CHAIN_QUESTION, DEPOT, DEPOT_LISTING};
 use reference::entries;
-use reference::plans::{all, Rng};
+use reference::network::Plan;
+use reference::plans::{all, path, Rng};
 use reference::text::write;
 use std::collections::BTreeSet;
 
@@ -14,8 +16,8 @@ fn compare(what: &str, bytes: &[u8], places: [usize; 3]) -> u32 {
     let [sizes, vertices, lengths] = &mut buffers;
     let answer = read_text(bytes, sizes, vertices, lengths);
     let [sizes, vertices, lengths] = &mut expected;
-    let [number, n, p, source] = entries::read_text(bytes, sizes, vertices, lengths);
-    assert_eq!(answer, ReadAnswer { number, n, p, source }, "{what}");
+    let [number, n, p, source, target] = entries::read_text(bytes, sizes, vertices, lengths);
+    assert_eq!(answer, ReadAnswer { number, n, p, source, target }, "{what}");
     assert!(buffers == expected, "the buffers differ: {what}");
     number
 }
@@ -30,18 +32,31 @@ fn compare_listing(what: &str, bytes: &[u8], size: usize) {
 const PLACES: [usize; 3] = [SIZES, VERTICES, LENGTHS];
 
 #[test]
-fn the_depot_example() {
-    let mut out = [0; LISTING];
-    let written = write_listing(&text(&DEPOT), &mut out);
-    assert_eq!(out[..written], text(&DEPOT_LISTING));
+fn the_depot_and_the_chain_example() {
+    let chain = chain_and(CHAIN_QUESTION);
+    for (bytes, listing) in [(text(&DEPOT), text(&DEPOT_LISTING)), (chain, text(&CHAIN_LISTING))] {
+        let mut out = [0; LISTING];
+        let written = write_listing(&bytes, &mut out);
+        assert_eq!(out[..written], listing);
+    }
 }
 
 #[test]
+fn the_longest_listing_fills_the_buffer() {
+    let bytes = write(&path(&mut Rng::new(14)));
+    assert_eq!(write_listing(&bytes, &mut [0; LISTING]), LISTING);
+}
+
+/// Every plan is also asked for its labels.
+#[test]
 fn sound_texts() {
-    for (k, plan) in all(11).iter().enumerate() {
-        let bytes = write(plan);
-        assert_eq!(compare(&format!("plan {k}"), &bytes, PLACES), 0);
-        compare_listing(&format!("plan {k}"), &bytes, LISTING);
+    for (k, plan) in all(11).into_iter().enumerate() {
+        for target in BTreeSet::from([None, plan.target]) {
+            let bytes = write(&Plan { target, ..plan.clone() });
+            let what = format!("plan {k}, target {target:?}");
+            assert_eq!(compare(&what, &bytes, PLACES), 0);
+            compare_listing(&what, &bytes, LISTING);
+        }
     }
 }
 
@@ -64,7 +79,7 @@ fn scratched_and_spoiled_texts() {
             met.insert(compare("spoiled", &write(&spoiled(&plan, &mut rng)), PLACES));
         }
     }
-    assert_eq!(met, BTreeSet::from([0, 3, 4, 5, 6, 7, 8]));
+    assert_eq!(met, BTreeSet::from([0, 3, 4, 5, 6, 7, 8, 12]));
 }
 
 #[test]

@@ -2,5 +2,6 @@
 pub mod Output
 pub mod Lines
 pub mod Refusals
+pub mod Lent
 pub mod Listed
 pub mod Front

@@ -1,33 +1,37 @@
--- From what the reader and the labelling answer to the listing.
+-- From what the reader answers to the listing.
 --   sized                            buffers of the stated sizes
 --   Understood read-accepted         an answer with number 0: the plan that was read, and its pieces in the buffers
 --   read-refused                     any other answer: the number of the refusal
---   vertices-fit labelled            the labelling of what is in the buffers, line by line, is the listing
---   listing-fits                     no listing is longer than the output buffer
+--   lent                             the network that is then in the buffers, accepted
+--   asks-labels asks-route           which listing its question asks for
+--   question-fits listing-fits       no listing is longer than the output buffer
 --   untouched finished written-fits  what the output buffer holds, and how many bytes are written
-use mathlib.Core.Path.{_≡_, refl, sym, ap, _∙_}
+use mathlib.Core.Path.{_≡_, refl, ap, _∙_}
 use mathlib.Core.Logic.{_≢_}
-use mathlib.Core.List.{List, [], _∷_, _++_, flatMap}
+use mathlib.Core.List.{List}
+use mathlib.Core.Option.{Option, none, some}
 use Prim.Native.Nat.{ℕ, zero, suc, _+_, _≤_}
 use native.Mathlib.Omega.{arith}
 use borrow.Author.Tests.{eq-eqb, ne-eqb}
 use lib.ListN.{length, length-append}
 use Rattle.definitions.specs.declared.ReadAnswer.{ReadAnswer}
-use Rattle.definitions.specs.declared.LabelAnswer.{LabelAnswer}
-use Rattle.definitions.specs.Limits.{maxVertices, sizePlaces, vertexPlaces, lengthPlaces, labelPlaces}
-use Rattle.definitions.specs.Lists.{upFrom, firstCause, Every}
+use Rattle.definitions.specs.Limits.{sizePlaces, vertexPlaces, lengthPlaces, noTarget}
+use Rattle.definitions.specs.Lists.{firstCause, Every}
+use Rattle.definitions.specs.Network.{sizeOf}
 use Rattle.definitions.specs.Blocks.{blocks}
-use Rattle.definitions.specs.Labelling.{State, labelOf, labelling, heldLabel, labels}
-use Rattle.definitions.specs.Reading.{Read, refused, value, require, Plan, readPlan, judgeLength, readText}
+use Rattle.definitions.specs.Labelling.{State, labelling, routeTo}
+use Rattle.definitions.specs.Judgement.{judgePiece, judgeTarget}
+use Rattle.definitions.specs.Reading.{Read, refused, value, require, judgeAsked, Plan, readPlan, judgeLength, readText}
 use Rattle.definitions.specs.Laws.LineProofs.{text-read}
 use Rattle.definitions.specs.Text.{sizesOf, verticesOf, lengthsOf}
-use Rattle.definitions.specs.Entries.{AfterRead, AfterLabel, hasPlaces, judgeBuffers, readRefusal, afterRead, reading, judgeLabelling, labelAnswer, labelNetwork, listingLine, refusalLine, stateListing, planListing, listing, listingPlaces, AfterListing, writeListing}
+use Rattle.definitions.specs.Entries.{AfterRead, hasPlaces, judgeBuffers, arcsOf, judgeLent, readRefusal, heldTarget, afterRead, reading, refusalLine, stateListing, routeListing, questionListing, planListing, listing, listingPlaces, AfterListing, writeListing}
 use Rattle.definitions.specs.Laws.Members.{every-imp}
-use Rattle.definitions.specs.Laws.Causes.{bounds-in}
+use Rattle.definitions.specs.Laws.Causes.{bounds-in, target-in}
 use Rattle.definitions.specs.Laws.ReadLaws.{bind-value, require-value}
 use Rattle.definitions.specs.Written.{SoundPiece, SoundPlan}
 use Rattle.logic.specs.Tests.{Truth, holds, fails, truth}
-use Rattle.labelling_laws.specs.LoopLaws.{labels-read}
+use Rattle.labelling_laws.specs.Acceptance.{Accepted}
+use Rattle.labelling_laws.specs.Routes.{arcs-fit}
 use Rattle.text.specs.PieceReading.{Shaped, Room, sizes-long, vertices-full, lengths-full}
 use Rattle.text.specs.Back.{pieces-back}
 use Rattle.text.specs.Plans.{planAnswer, After as AfterReading}
@@ -35,7 +39,8 @@ use Rattle.text.specs.Accepted.{shape-of, network-accepted}
 use Rattle.basics.specs.Buffers.{put}
 use Rattle.answer.specs.Output.{Put}
 use Rattle.answer.specs.Refusals.{Numbered, numbered-text}
-use Rattle.answer.specs.Lines.{length-line, vertexLines, length-vertices, refusal-fits}
+use Rattle.answer.specs.Lines.{length-line, length-vertices, length-arcs, refusal-fits}
+use Rattle.answer.specs.Lent.{Lent, lentState, state-listing, route-listing, route-few}
 
 -- ---- the reader
 
@@ -114,9 +119,9 @@ module _ (text s v l : List ℕ) (answer : ReadAnswer) (s′ v′ l′ : List �
       go (turned k e) = rw (answer-refused k e, e)
       go (read plan e) = absurd (h (ap (λ (a : ReadAnswer). a .number) (answer-value plan e .answered)))
 
--- ---- the labelling
+-- ---- the network in the reader's buffers
 
--- the pieces behind the buffers, judged
+-- a plan that no cause turns away, in the buffers that hold it
 module _ (plan : Plan) (sound : SoundPlan plan) where
   shaped : Every Shaped (plan .pieces)
   shaped = every-imp (SoundPiece (plan .n)) Shaped (plan .pieces) (shape-of (plan .n)) (sound .each)
@@ -124,61 +129,79 @@ module _ (plan : Plan) (sound : SoundPlan plan) where
   room : Room (length (plan .pieces)) (sizesOf (plan .pieces)) (verticesOf (plan .pieces)) (lengthsOf (plan .pieces))
   room = record { pieces = plan .pieces; count = refl; held = record { shaped = shaped; sizes-hold = refl; vertices-hold = refl; lengths-hold = refl } }
 
-  lent-accepted : (buffer : List ℕ) → length buffer ≡ labelPlaces
-      → judgeLabelling (plan .n) (length (plan .pieces)) (sizesOf (plan .pieces)) (verticesOf (plan .pieces)) (lengthsOf (plan .pieces)) (plan .source) buffer ≡ 0
-  unfolding judgeLabelling judgeBuffers hasPlaces firstCause
-  lent-accepted buffer h =
+  plan-lent : Lent (plan .n) (length (plan .pieces)) (sizesOf (plan .pieces)) (verticesOf (plan .pieces)) (lengthsOf (plan .pieces)) (plan .source)
+  unfolding judgeLent judgeBuffers firstCause
+  plan-lent =
       let few = bounds-in (plan .n) (length (plan .pieces)) (sound .bounds) .1 in
-      rw (
-        eq-eqb _ _ (sizes-long _ _ _ _ room few),
-        eq-eqb _ _ (vertices-full _ _ _ _ room few),
-        eq-eqb _ _ (lengths-full _ _ _ _ room few),
-        eq-eqb _ _ h,
-        network-accepted (plan .n) (plan .pieces) (sound .bounds) (sound .each),
-        sound .source-in,
-      )
+      record {
+        network = rw (
+          eq-eqb _ _ (sizes-long _ _ _ _ room few),
+          eq-eqb _ _ (vertices-full _ _ _ _ room few),
+          eq-eqb _ _ (lengths-full _ _ _ _ room few),
+          network-accepted (plan .n) (plan .pieces) (sound .bounds) (sound .each),
+        );
+        source-in = sound .source-in;
+      }
 
-  -- the plan's labelling
-  abbrev stateOf : State
-  stateOf = labelling (blocks (plan .pieces)) (plan .source)
+  plan-accepted : Accepted (plan .n) (plan .pieces) (plan .source)
+  plan-accepted = record {
+    bounds = sound .bounds;
+    pieces-pass = every-imp (SoundPiece (plan .n)) (λ q. judgePiece (plan .n) (sizeOf q) q ≡ 0) (plan .pieces) (λ q s. s .judgement) (sound .each);
+    source-passes = sound .source-in;
+  }
 
-  lent-labelled : (buffer : List ℕ) → length buffer ≡ labelPlaces
-      → labelNetwork (plan .n) (length (plan .pieces)) (sizesOf (plan .pieces)) (verticesOf (plan .pieces)) (lengthsOf (plan .pieces)) (plan .source) buffer
-      ≡ record { answer = labelAnswer stateOf; labels = labels stateOf }
-  unfolding labelNetwork
-  lent-labelled buffer h = rw (lent-accepted buffer h, pieces-back (plan .pieces) shaped)
+  -- a target is a vertex: it is never the number that stands for none
+  target-none : (target : Option ℕ) → judgeAsked (plan .n) target ≡ 0 → heldTarget target ≡ noTarget → target ≡ none
+  unfolding heldTarget judgeAsked
+  target-none none h e = refl
+  target-none (some t) h e = absurd (omega (arith, target-in (plan .n) t h .1, bounds-in (plan .n) (length (plan .pieces)) (sound .bounds) .0))
 
--- the lines by the buffer's places are those by the settled vertices
-lines-same : (st : State) (v k : ℕ) → 1 ≤ v → v + k ≤ suc labelPlaces → vertexLines (labels st) v k ≡ flatMap (λ w. listingLine (w ∷ heldLabel (labelOf w (st .settled)) ∷ [])) (upFrom v k)
-unfolding vertexLines flatMap upFrom
-lines-same st v zero low high = refl
-lines-same st v (suc k) low high = rw (labels-read st v low (omega arith), lines-same st (suc v) k (omega arith) (omega arith))
-
-state-listing : (n source : ℕ) (st : State) → n ≤ maxVertices
-    → stateListing n source st ≡ listingLine (source ∷ labelAnswer st .reached ∷ labelAnswer st .extracted ∷ labelAnswer st .inserted ∷ []) ++ vertexLines (labels st) 1 n
-unfolding stateListing labelAnswer
-state-listing n source st h = rw (lines-same st 1 n (omega arith) (omega arith))
+  target-some : (target : Option ℕ) → judgeAsked (plan .n) target ≡ 0 → heldTarget target ≢ noTarget → (target ≡ some (heldTarget target)) × (judgeTarget (plan .n) (heldTarget target) ≡ 0)
+  unfolding heldTarget judgeAsked
+  target-some none h e = absurd (e refl)
+  target-some (some t) h e = (refl, h)
 
 module _ (text s v l : List ℕ) (answer : ReadAnswer) (u : Understood text answer s v l) where
   sound : SoundPlan (u .plan)
   sound = text-read text (u .plan) (text-value text (u .plan) (u .said) .1) .0
 
-  pub vertices-fit : answer .n ≤ maxVertices
-  vertices-fit = rw (u .answered) (bounds-in (u .plan .n) (length (u .plan .pieces)) (sound .bounds) .0)
+  pub lent : Lent (answer .n) (answer .p) s v l (answer .source)
+  lent = rw (u .answered, u .sizes-hold, u .vertices-hold, u .lengths-hold) (plan-lent (u .plan) sound)
 
-  -- the counts, then a line for each vertex with the label at its place
-  pub labelled : (labelAns : LabelAnswer) (buffer left : List ℕ) → length buffer ≡ labelPlaces
-      → _≡_ {A = AfterLabel} (record { answer = labelAns; labels = left }) (labelNetwork (answer .n) (answer .p) s v l (answer .source) buffer)
-      → listingLine (answer .source ∷ labelAns .reached ∷ labelAns .extracted ∷ labelAns .inserted ∷ []) ++ vertexLines left 1 (answer .n) ≡ listing text
-  unfolding listing planListing
-  labelled labelAns buffer left h e =
-      let st = stateOf (u .plan) sound in
-      let done : _≡_ {A = AfterLabel} (record { answer = labelAns; labels = left }) (record { answer = labelAnswer st; labels = labels st }) = rw (u .answered, u .sizes-hold, u .vertices-hold, u .lengths-hold, lent-labelled (u .plan) sound buffer h) at e in
-      let a : labelAns ≡ labelAnswer st = ap (λ (x : AfterLabel). x .answer) done in
-      let b : left ≡ labels st = ap (λ (x : AfterLabel). x .labels) done in
-      rw (u .said, u .answered, a, b) (sym (state-listing (u .plan .n) (u .plan .source) st (bounds-in (u .plan .n) (length (u .plan .pieces)) (sound .bounds) .0)))
+  same-state : lentState (answer .p) s v l (answer .source) ≡ labelling (blocks (u .plan .pieces)) (u .plan .source)
+  same-state = rw (u .answered, u .sizes-hold, u .vertices-hold, u .lengths-hold, pieces-back (u .plan .pieces) (shaped (u .plan) sound))
+
+  -- a question with no target
+  pub asks-labels : answer .target ≡ noTarget → stateListing (answer .n) (answer .source) (lentState (answer .p) s v l (answer .source)) ≡ listing text
+  unfolding listing planListing questionListing
+  asks-labels h =
+      let t : u .plan .target ≡ none = target-none (u .plan) sound (u .plan .target) (sound .target-in) (rw (u .answered) at h) in
+      rw (same-state, u .said, u .answered, t)
+
+  -- a question with one
+  pub asks-route : answer .target ≢ noTarget
+      → (judgeTarget (answer .n) (answer .target) ≡ 0) × (routeListing (answer .source) (answer .target) (lentState (answer .p) s v l (answer .source)) ≡ listing text)
+  unfolding listing planListing questionListing heldTarget
+  asks-route h =
+      let t = target-some (u .plan) sound (u .plan .target) (sound .target-in) (rw (u .answered) at h) in
+      (rw (u .answered) (t .1), rw (same-state, u .said, u .answered, t .0))
 
 -- ---- the output
+
+module _ (plan : Plan) (sound : SoundPlan plan) where
+  -- the plan's labelling
+  abbrev st : State
+  st = labelling (blocks (plan .pieces)) (plan .source)
+
+  question-fits : (target : Option ℕ) → length (questionListing (plan .n) (plan .source) target st) ≤ listingPlaces
+  unfolding questionListing
+  question-fits none =
+      let few = bounds-in (plan .n) (length (plan .pieces)) (sound .bounds) .0 in
+      rw (state-listing (plan .n) (plan .source) st few, length-append, length-line, length-vertices) (omega arith)
+  question-fits (some target) =
+      let few = route-few (plan .n) (plan .pieces) (plan .source) (plan-accepted plan sound) target in
+      let sized = arcs-fit (routeTo st target) few in
+      rw (route-listing (plan .source) target st, length-append, length-line) (omega (arith, length-arcs (arcsOf (routeTo st target)) (length (routeTo st target)) (omega arith)))
 
 listing-fits : (text : List ℕ) → length (listing text) ≤ listingPlaces
 unfolding listing planListing
@@ -186,10 +209,7 @@ listing-fits text = go (seen (readText text))
   where
     go : Seen (readText text) → length (listing text) ≤ listingPlaces
     go (turned k e) = rw e (omega (arith, refusal-fits k))
-    go (read plan e) =
-        let few = bounds-in (plan .n) (length (plan .pieces)) (text-read text plan (text-value text plan e .1) .0 .bounds) .0 in
-        let st = labelling (blocks (plan .pieces)) (plan .source) in
-        rw (e, state-listing (plan .n) (plan .source) st few, length-append, length-line, length-vertices) (omega arith)
+    go (read plan e) = rw e (question-fits plan (text-read text plan (text-value text plan e .1) .0) (plan .target))
 
 module _ (text out : List ℕ) where
   pub untouched : length out ≢ listingPlaces → record { written = 0; out = out } ≡ writeListing text out

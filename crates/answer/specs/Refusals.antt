@@ -9,7 +9,7 @@ use lib.ListN.{getD}
 use Rattle.definitions.specs.Lists.{total}
 use Rattle.definitions.specs.Judgement.{judgeBounds, judgeSize, judgeVertices, judgeRow, judgeBlocks, judgeSource}
 use Rattle.definitions.specs.Fields.{fieldBytes, fieldAt, lengthAt}
-use Rattle.definitions.specs.Reading.{FieldReading, Read, refused, value, _>>=_, require, readField, readFields, judgeLineEnd, readLine, lineBytes, readRows, readPiece, pieceBytes, readPieces, judgeEnd, readBody, readPlan, judgeLength, readText}
+use Rattle.definitions.specs.Reading.{FieldReading, Read, refused, value, _>>=_, require, readField, readFields, judgeLineEnd, readLine, lineBytes, readRows, readPiece, pieceBytes, readPieces, judgeEnd, questionOf, questionSize, judgeAsked, readQuestion, readBody, readPlan, judgeLength, readText}
 
 abbrev pub Numbered : {A : Type 0} → Read A → Type 0
 Numbered (refused k) = 1 ≤ k
@@ -60,13 +60,19 @@ numbered-pieces text n at zero = tt
 numbered-pieces text n at (suc k) =
     numbered-bind (readPiece text n at) _ (numbered-piece text n at) (λ q. numbered-bind (readPieces text n (at + pieceBytes q) k) _ (numbered-pieces text n (at + pieceBytes q) k) (λ qs. tt))
 
+numbered-question : (text : List ℕ) (n at : ℕ) → Numbered (readQuestion text n at)
+unfolding readQuestion
+numbered-question text n at =
+    numbered-bind (readLine fieldAt text at (questionSize text at)) _ (numbered-line fieldAt text at (questionSize text at)) (λ fields. let question = questionOf fields in
+    numbered-require (judgeSource n (question .source)) _ (numbered-require (judgeAsked n (question .target)) _
+    (numbered-require (judgeEnd text (at + lineBytes (questionSize text at))) _ tt)))
+
 numbered-body : (text : List ℕ) (n p : ℕ) → Numbered (readBody text n p)
 unfolding readBody
 numbered-body text n p =
     numbered-require (judgeBounds n p) _
     (numbered-bind (readPieces text n (lineBytes 2) p) _ (numbered-pieces text n (lineBytes 2) p) (λ qs. let at = lineBytes 2 + total (map pieceBytes qs) in
-    numbered-bind (readLine fieldAt text at 1) _ (numbered-line fieldAt text at 1) (λ question. numbered-require (judgeSource n (getD question 0 0)) _
-    (numbered-require (judgeEnd text (at + lineBytes 1)) _ tt))))
+    numbered-bind (readQuestion text n at) _ (numbered-question text n at) (λ question. tt)))
 
 numbered-plan : (text : List ℕ) → Numbered (readPlan text)
 unfolding readPlan

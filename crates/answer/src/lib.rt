@@ -3,11 +3,13 @@ ghost use mathlib.Core.Path.{_≡_};
 ghost use mathlib.Core.List.{List, [], _∷_, _++_};
 ghost use Prim.Native.Nat.{ℕ, _+_, _*_, _≤_, _<_};
 ghost use lib.ListN.{length, take};
-ghost use Rattle.definitions.specs.Limits.{maxVertices, labelPlaces, lineFields};
+ghost use Rattle.definitions.specs.Limits.{maxVertices, maxArcs, labelPlaces, arcSize, routePlaces, lineFields};
+ghost use Rattle.definitions.specs.Judgement.{judgeTarget};
 ghost use Rattle.definitions.specs.Fields.{lineEnd, decimal};
-ghost use Rattle.definitions.specs.Entries.{listingLine, refusalLine, listingLineBytes, writeListing};
+ghost use Rattle.definitions.specs.Entries.{listingLine, refusalLine, stateListing, routeListing, listingLineBytes, listingPlaces, writeListing};
 ghost use Rattle.answer.specs.Output.{Put};
-ghost use Rattle.answer.specs.Lines.{vertexLines, refusalBytes};
+ghost use Rattle.answer.specs.Lines.{vertexLines, arcLines, refusalBytes};
+ghost use Rattle.answer.specs.Lent.{Lent, lentState};
 use bounds::Line;
 use bounds::Network;
 use bounds::Text;
@@ -15,10 +17,8 @@ use bounds::Text;
 // The places of the buffer that a program reads its input into: one byte more than a text may have shows that it is too long.
 pub const INPUT_PLACES: usize = Text::MAX_BYTES + 1;
 
-// The places of the output, room for the longest listing: a line of four fields, and one of two for each vertex.
-pub const LISTING_BYTES: usize = 4 * Line::FIELD_BYTES
-    + 1
-    + Network::LABEL_PLACES * (2 * Line::FIELD_BYTES + 1);
+// The places of the output, room for the longest listing: that of a route is a line of four fields, and one more for each arc.
+pub const LISTING_BYTES: usize = (1 + Network::MAX_ARCS) * (Line::BYTES + 1);
 
 // Puts a byte into the output; the place behind it.
 fn put_byte(out: &mut [u8], at: usize, byte: u8) -> usize
@@ -81,6 +81,22 @@ fn put_vertices(out: &mut [u8], at: usize, n: u32, labels: &[u32]) -> usize
     place
 }
 
+// Puts the lines of the first k arcs in the buffer of a route, each with its four numbers.
+fn put_arcs(out: &mut [u8], at: usize, arcs: &[u32], k: usize) -> usize
+    requires { ⌜ (k ≤ maxArcs) × (length (now arcs) ≡ routePlaces) × (at + k * listingLineBytes arcSize ≤ length (now out)) ⌝ }
+    ensures { λ r. ⌜ Put (now (out .entry)) at (arcLines (now (arcs .entry)) 0 k) r (now (out .exit)) ⌝ }
+{
+    let mut place = at;
+    let mut i = 0;
+    while i < k {
+        let first = Network::ARC_SIZE * i;
+        let end = first + Network::ARC_SIZE;
+        place = put_fields(out, place, &arcs[first..end]);
+        i += 1;
+    }
+    place
+}
+
 // Puts the decimal digits of a number: the last one behind those of the rest.
 fn put_number(out: &mut [u8], at: usize, x: u32) -> usize
     requires { ⌜ at + length (decimal x) ≤ length (now out) ⌝ }
@@ -103,6 +119,49 @@ fn put_refusal(out: &mut [u8], number: u32) -> usize
     put_byte(out, end, b'\n')
 }
 
+// Puts the listing of a question with no target: a line of the source and the three counts, then a line for each vertex.
+fn put_labels(
+    out: &mut [u8],
+    n: u32,
+    p: u32,
+    sizes: &[u32],
+    vertices: &[u32],
+    lengths: &[u32],
+    source: u32,
+) -> usize
+    requires { ⌜ (length (now out) ≡ listingPlaces) × Lent n p (now sizes) (now vertices) (now lengths) source ⌝ }
+    ensures { λ r. ⌜ Put (now (out .entry)) 0 (stateListing n source (lentState p (now (sizes .entry)) (now (vertices .entry)) (now (lengths .entry)) source)) r (now (out .exit)) ⌝ }
+{
+    let mut labels = [0u32; Network::LABEL_PLACES];
+    let done = engine::label_network(n, p, sizes, vertices, lengths, source, &mut labels);
+    let counts = [source, done.reached, done.extracted, done.inserted];
+    let next = put_fields(out, 0, &counts);
+    put_vertices(out, next, n, &labels)
+}
+
+// Puts the listing of a question with a target: a line of the source, the target, its label and how many arcs lead there, then a line
+// for each arc.
+fn put_route(
+    out: &mut [u8],
+    n: u32,
+    p: u32,
+    sizes: &[u32],
+    vertices: &[u32],
+    lengths: &[u32],
+    source: u32,
+    target: u32,
+) -> usize
+    requires { ⌜ (length (now out) ≡ listingPlaces) × Lent n p (now sizes) (now vertices) (now lengths) source × (judgeTarget n target ≡ 0) ⌝ }
+    ensures { λ r. ⌜ Put (now (out .entry)) 0 (routeListing source target (lentState p (now (sizes .entry)) (now (vertices .entry)) (now (lengths .entry)) source)) r (now (out .exit)) ⌝ }
+{
+    let mut arcs = [0u32; Network::ROUTE_PLACES];
+    let done = routes::route_network(n, p, sizes, vertices, lengths, source, target, &mut arcs);
+    let count = done.arcs;
+    let heading = [source, target, done.label, count];
+    let next = put_fields(out, 0, &heading);
+    put_arcs(out, next, &arcs, count as usize)
+}
+
 // Writes what the program `labels` prints for a text to the front of the output, and returns how many bytes that is; what stands
 // behind them stays. An output of another size is left as it was, and 0 is returned.
 pub fn write_listing(text: &[u8], out: &mut [u8]) -> usize
@@ -120,12 +179,13 @@ pub fn write_listing(text: &[u8], out: &mut [u8]) -> usize
         return put_refusal(out, number);
     }
     let n = read.n;
+    let p = read.p;
     let source = read.source;
-    let mut labels = [0u32; Network::LABEL_PLACES];
-    let done = engine::label_network(n, read.p, &sizes, &vertices, &lengths, source, &mut labels);
-    let counts = [source, done.reached, done.extracted, done.inserted];
-    let next = put_fields(out, 0, &counts);
-    put_vertices(out, next, n, &labels)
+    let target = read.target;
+    if target == Network::NO_TARGET {
+        return put_labels(out, n, p, &sizes, &vertices, &lengths, source);
+    }
+    put_route(out, n, p, &sizes, &vertices, &lengths, source, target)
 }
 
 // Writes the listing of an input, however long it is, as `write_listing` does for a text. The first `read` bytes of the buffer are the

@@ -163,6 +163,11 @@ unfolding different
 different-is [] h = tt
 different-is (x ∷ xs) h = (not-true (mem x xs) (and-left (not (mem x xs)) (different xs) h), different-is xs (and-right (not (mem x xs)) (different xs) h))
 
+pub is-different : (xs : List ℕ) → Different xs → different xs ≡ true
+unfolding different
+is-different [] h = refl
+is-different (x ∷ xs) h = rw (h .0, is-different xs (h .1))
+
 pub different-snoc : (xs : List ℕ) (x : ℕ) → Different xs → mem x xs ≡ false → Different (xs ++ x ∷ [])
 unfolding mem
 different-snoc [] x d h = (refl, tt)

@@ -17,6 +17,18 @@ impl Network {
     // for a vertex that is not reached, and for a row that is not activated
     pub const UNREACHED: u32 = 4294967295;
 
+    // the text reader returns it where a question has no target
+    pub const NO_TARGET: u32 = 4294967295;
+
+    // no vertex stands twice on a route
+    pub const MAX_ARCS: usize = Network::MAX_VERTICES as usize - 1;
+
+    // the numbers of an arc: from vertex, to vertex, piece, length
+    pub const ARC_SIZE: usize = 4;
+
+    // the word of a vertex that was settled by no arc; it is no arc's, since the two ends of one differ
+    pub const NO_ARC: u32 = 0;
+
     // the places of one row
     pub const ROW_PLACES: usize = Network::MAX_SIZE as usize;
 
@@ -34,6 +46,9 @@ impl Network {
 
     // the labels of all vertices
     pub const LABEL_PLACES: usize = Network::MAX_VERTICES as usize;
+
+    // the arcs of a route
+    pub const ROUTE_PLACES: usize = Network::ARC_SIZE * Network::MAX_ARCS;
 }
 
 // The bounds of a session, and the sizes of its lent buffers.
@@ -122,6 +137,8 @@ impl Cause {
     pub const BLOCK: u32 = 7;
 
     pub const SOURCE: u32 = 8;
+
+    pub const TARGET: u32 = 12;
 }
 
 // The codes that a session's calls answer.

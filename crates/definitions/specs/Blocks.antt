@@ -1,7 +1,7 @@
 -- Document 01, "Splitting a district": the halving, the blocks of a network, the check of a block.
 --   Split splits splitsOf allSplits    the halving, in the order of 01
 --   Window windows windowsOf           the blocks of a size, by places
---   Block blockOf blocks               the blocks of a network, by vertices
+--   Block blockOf blocksFrom blocks    the blocks of a network, by vertices
 --   passes                             the check, with the law that it is the inequality of the file Monge
 --   logarithm weight                   ⌈log₂ m⌉, and the sum over pieces of m·⌈log₂ m⌉: they restate the bound of demand 3
 use mathlib.Core.Path.{_≡_}
@@ -71,32 +71,38 @@ rowsOf w = upFrom (w .row0) (w .rows)
 unfoldable pub columnsOf : Window → List ℕ
 columnsOf w = downTo (w .col0) (w .cols)
 
--- the vertices of its rows and of its columns, and its entries
+-- the number of its piece, from 1, the vertices of its rows and of its columns, and its entries
 pub record Block : Type 0 where
+  pub piece : ℕ
   pub rows : List ℕ
   pub cols : List ℕ
   pub lengths : Rectangle
 
--- the block of a piece at a window: entry (i, k) is that from the place of row i to the place of column k
-unfoldable pub blockOf : Piece → Window → Block
-blockOf q w = record {
+-- the block of piece d at a window: entry (i, k) is that from the place of row i to the place of column k
+unfoldable pub blockOf : ℕ → Piece → Window → Block
+blockOf d q w = record {
+  piece = d;
   rows = map (λ i. getD (q .vertices) i 0) (rowsOf w);
   cols = map (λ j. getD (q .vertices) j 0) (columnsOf w);
   lengths = λ i k. entry q (getD (rowsOf w) i 0) (getD (columnsOf w) k 0);
 }
 
--- the blocks of a piece, in their order
-unfoldable pub blocksOf : Piece → List Block
-blocksOf q = map (blockOf q) (windowsOf (sizeOf q))
+-- the blocks of piece d, in their order
+unfoldable pub blocksOf : ℕ → Piece → List Block
+blocksOf d q = map (blockOf d q) (windowsOf (sizeOf q))
 
--- the blocks of all pieces, in the order of their numbers; 01 counts them from 1
+-- those of pieces of which the first is piece d
+unfoldable pub blocksFrom : ℕ → List Piece → List Block
+blocksFrom d [] = []
+blocksFrom d (q ∷ qs) = blocksOf d q ++ blocksFrom (suc d) qs
+
+-- the blocks of all pieces, in the order of their numbers; 01 counts both from 1
 unfoldable pub blocks : List Piece → List Block
-blocks [] = []
-blocks (q ∷ qs) = blocksOf q ++ blocks qs
+blocks qs = blocksFrom 1 qs
 
 -- what stands past the last block
 abbrev pub noBlock : Block
-noBlock = record { rows = []; cols = []; lengths = λ i k. 0 }
+noBlock = record { piece = 0; rows = []; cols = []; lengths = λ i k. 0 }
 
 -- a block passes its check
 unfoldable pub passes : Block → Bool

@@ -1,6 +1,7 @@
 -- What each entry returns and leaves in each lent buffer, for every input. The causes are those of document 01, "Causes that turn an input away".
 --   session          a session on one block, with the law that the order of its intervals fixes their buffer
 --   labelNetwork     the labelling of a lent network
+--   routeNetwork     the route to a target in a lent network
 --   judgeLent        the judgement of a lent network
 --   reading          the text reader
 --   fieldEntry       the six-column field reader, as it is exported
@@ -10,22 +11,24 @@
 use mathlib.Core.Path.{_≡_}
 use mathlib.Core.Bool.{Bool, cond, _&&_}
 use mathlib.Core.List.{List, [], _∷_, _++_, map, flatMap}
+use mathlib.Core.Option.{Option, none, some}
 use Prim.Native.Nat.{ℕ, _+_, _*_}
 use lib.Dec.{eqb, leb}
 use lib.ListN.{getD, length, take, drop, replicate}
 use Rattle.definitions.specs.declared.ReadAnswer.{ReadAnswer}
 use Rattle.definitions.specs.declared.LabelAnswer.{LabelAnswer}
+use Rattle.definitions.specs.declared.RouteAnswer.{RouteAnswer}
 use Rattle.definitions.specs.declared.SessionAnswer.{SessionAnswer}
-use Rattle.definitions.specs.Limits.{maxVertices, maxLength, maxSide, maxCalls, sizePlaces, vertexPlaces, lengthPlaces, rowPlaces, labelPlaces, rectanglePlaces, callPlaces, answerPlaces, intervalPlaces, callSize, answerSize, columnBytes, lineFields, linePlaces, lastPlace, unusedInterval}
+use Rattle.definitions.specs.Limits.{maxLength, maxArcs, maxSide, maxCalls, sizePlaces, vertexPlaces, lengthPlaces, rowPlaces, labelPlaces, routePlaces, rectanglePlaces, callPlaces, answerPlaces, intervalPlaces, callSize, answerSize, columnBytes, lineFields, linePlaces, lastPlace, noTarget, unusedInterval}
 use Rattle.definitions.specs.Lists.{all, upFrom, padded, within, firstCause}
-use Rattle.definitions.specs.Network.{Rectangle}
+use Rattle.definitions.specs.Network.{Rectangle, RouteArc}
 use Rattle.definitions.specs.Monge.{isMonge}
 use Rattle.definitions.specs.Blocks.{blocks}
 use Rattle.definitions.specs.Best.{Best, nobody, by}
 use Rattle.definitions.specs.Intervals.{Interval, interval, SameIntervals, byFirstColumn, FirstsRise}
 use Rattle.definitions.specs.Model.{intervals, by-first-column-exactly, Listed, withBest, Call, Answer, trace}
-use Rattle.definitions.specs.Labelling.{State, labelOf, labelling, reached, extractions, insertions, heldLabel, labels}
-use Rattle.definitions.specs.Judgement.{judgeSource, piecesOf, judgeNetwork}
+use Rattle.definitions.specs.Labelling.{State, labelOf, labelling, reached, extractions, insertions, heldLabel, labels, routeTo}
+use Rattle.definitions.specs.Judgement.{judgeSource, judgeTarget, piecesOf, judgeNetwork}
 use Rattle.definitions.specs.Fields.{blank, lineEnd, fieldAt, decimal, nineColumns}
 use Rattle.definitions.specs.Reading.{Read, refused, value, Plan, readPlan, judgeLength, readText}
 use Rattle.definitions.specs.Text.{sizesOf, verticesOf, lengthsOf}
@@ -160,6 +163,47 @@ labelNetwork n p sizes vertices lengths source buffer =
     let done : AfterLabel = record { answer = labelAnswer st; labels = labels st } in
     cond (eqb cause 0) done (record { answer = labelRefusal cause; labels = buffer })
 
+-- ---- the route to a target (document 02, request 4)
+
+-- what it returns, and what stands in its buffer
+pub record AfterRoute : Type 0 where
+  pub answer : RouteAnswer
+  pub arcs : List ℕ
+
+-- the buffers, the network, the source, the target
+unfoldable pub judgeRoute : ℕ → ℕ → List ℕ → List ℕ → List ℕ → ℕ → ℕ → List ℕ → ℕ
+judgeRoute n p sizes vertices lengths source target buffer =
+    firstCause (cond (hasPlaces routePlaces buffer) 0 1
+    ∷ judgeBuffers (length sizes) (length vertices) (length lengths)
+    ∷ judgeNetwork n p sizes vertices lengths
+    ∷ judgeSource n source
+    ∷ judgeTarget n target
+    ∷ [])
+
+-- the four numbers of an arc: from vertex, to vertex, piece, length
+unfoldable pub arcNumbers : RouteArc → List ℕ
+arcNumbers a = a .from ∷ a .to ∷ a .piece ∷ a .length ∷ []
+
+-- the buffer, arc by arc; unused places are 0
+unfoldable pub arcsOf : List RouteArc → List ℕ
+arcsOf arcs = padded routePlaces 0 (flatMap arcNumbers arcs)
+
+-- what an accepted route returns: the target's label as the label buffer would hold it, and how many arcs lead there
+unfoldable pub routeAnswer : State → ℕ → RouteAnswer
+routeAnswer st target = record { number = 0; label = heldLabel (labelOf target (st .settled)); arcs = length (routeTo st target) }
+
+-- a refusal returns its number and counts of 0
+abbrev pub routeRefusal : ℕ → RouteAnswer
+routeRefusal k = record { number = k; label = 0; arcs = 0 }
+
+-- a refusal leaves the buffer
+unfoldable pub routeNetwork : ℕ → ℕ → List ℕ → List ℕ → List ℕ → ℕ → ℕ → List ℕ → AfterRoute
+routeNetwork n p sizes vertices lengths source target buffer =
+    let cause = judgeRoute n p sizes vertices lengths source target buffer in
+    let st = labelling (blocks (piecesOf p sizes vertices lengths)) source in
+    let done : AfterRoute = record { answer = routeAnswer st target; arcs = arcsOf (routeTo st target) } in
+    cond (eqb cause 0) done (record { answer = routeRefusal cause; arcs = buffer })
+
 -- ---- the judgement alone
 
 -- the buffers, then the network
@@ -177,9 +221,14 @@ pub record AfterRead : Type 0 where
 
 -- a refusal returns its number and counts of 0
 abbrev pub readRefusal : ℕ → ReadAnswer
-readRefusal k = record { number = k; n = 0; p = 0; source = 0 }
+readRefusal k = record { number = k; n = 0; p = 0; source = 0; target = 0 }
 
--- a refusal by 3 to 8 leaves 0 everywhere
+-- a target as the reader returns it (02, request 4)
+unfoldable pub heldTarget : Option ℕ → ℕ
+heldTarget none = noTarget
+heldTarget (some target) = target
+
+-- a refusal by 3 to 8 or 12 leaves 0 everywhere
 unfoldable pub afterRead : Read Plan → AfterRead
 afterRead (refused k) = record {
   answer = readRefusal k;
@@ -188,7 +237,7 @@ afterRead (refused k) = record {
   lengths = replicate lengthPlaces 0;
 }
 afterRead (value plan) = record {
-  answer = record { number = 0; n = plan .n; p = length (plan .pieces); source = plan .source };
+  answer = record { number = 0; n = plan .n; p = length (plan .pieces); source = plan .source; target = heldTarget (plan .target) };
   sizes = sizesOf (plan .pieces);
   vertices = verticesOf (plan .pieces);
   lengths = lengthsOf (plan .pieces);
@@ -252,10 +301,21 @@ stateListing n source st =
     listingLine (source ∷ reached st ∷ extractions st ∷ insertions st ∷ [])
     ++ flatMap (λ v. listingLine (v ∷ heldLabel (labelOf v (st .settled)) ∷ [])) (upFrom 1 n)
 
+-- A line of the source, the target, its label and how many arcs lead there; then a line for each arc (02, request 4).
+unfoldable pub routeListing : ℕ → ℕ → State → List ℕ
+routeListing source target st =
+    listingLine (source ∷ target ∷ heldLabel (labelOf target (st .settled)) ∷ length (routeTo st target) ∷ [])
+    ++ flatMap (λ a. listingLine (arcNumbers a)) (routeTo st target)
+
+-- the labels of all vertices, or the route to a target
+unfoldable pub questionListing : ℕ → ℕ → Option ℕ → State → List ℕ
+questionListing n source none st = stateListing n source st
+questionListing n source (some target) st = routeListing source target st
+
 -- the listing of what was read
 unfoldable pub planListing : Read Plan → List ℕ
 planListing (refused k) = refusalLine k
-planListing (value plan) = stateListing (plan .n) (plan .source) (labelling (blocks (plan .pieces)) (plan .source))
+planListing (value plan) = questionListing (plan .n) (plan .source) (plan .target) (labelling (blocks (plan .pieces)) (plan .source))
 
 -- what `labels` writes for the bytes that it reads
 unfoldable pub listing : List ℕ → List ℕ
@@ -267,9 +327,10 @@ listing text = planListing (readText text)
 abbrev pub listingLineBytes : ℕ → ℕ
 listingLineBytes k = columnBytes * k + 1
 
--- room for the longest listing, 4,901 bytes: a line of four fields, and one of two for each vertex
+-- room for the longest listing, 9,472 bytes: a line of four fields, and one more for each arc. That of the labels is shorter, with a line of two fields for
+-- each vertex.
 abbrev pub listingPlaces : ℕ
-listingPlaces = listingLineBytes lineFields + maxVertices * listingLineBytes 2
+listingPlaces = listingLineBytes lineFields + maxArcs * listingLineBytes lineFields
 
 -- how many bytes were written, and what stands in the output buffer
 pub record AfterListing : Type 0 where

@@ -1,25 +1,26 @@
 -- Document 01, "Depot examples": P1 to P12, rows of one table closed by one statement, by computation from the definitions. P7 to P11
 -- have the five numbers of document 02, request 3, for each interval; P9 lists its two in the order of request 2; the second half of P12 is that of request 1.
+-- P13 to P18 are our own, for the questions with a target of request 4.
 use mathlib.Core.Path.{_≡_, refl}
 use mathlib.Core.List.{List, [], _∷_, _++_, map, flatMap}
 use Prim.Native.Nat.{ℕ, pred}
 use Prim.Native.Char.{code}
 use Prim.Native.String.{String, [] as empty, _∷_ as _before_}
 use lib.ListN.{getD, length, replicate}
-use Rattle.definitions.specs.Limits.{sizePlaces, vertexPlaces, lengthPlaces, rowPlaces, labelPlaces, rectanglePlaces, callPlaces, answerPlaces, intervalPlaces, unreached, unusedInterval}
+use Rattle.definitions.specs.Limits.{sizePlaces, vertexPlaces, lengthPlaces, rowPlaces, tablePlaces, labelPlaces, routePlaces, rectanglePlaces, callPlaces, answerPlaces, intervalPlaces, unreached, noTarget, unusedInterval}
 use Rattle.definitions.specs.Lists.{all, every, mem, different, total, upFrom, downTo, padded, within, firstCause}
 use Rattle.definitions.specs.Network.{entry, sizeOf}
-use Rattle.definitions.specs.Blocks.{splits, splitsOf, windows, windowsOf, rowsOf, columnsOf, Block, blockOf, blocksOf, blocks, noBlock, passes}
+use Rattle.definitions.specs.Blocks.{splits, splitsOf, windows, windowsOf, rowsOf, columnsOf, Block, blockOf, blocksOf, blocksFrom, blocks, noBlock, passes}
 use Rattle.definitions.specs.Monge.{corners, isMonge}
 use Rattle.definitions.specs.Best.{lesser, least, placed, leastFrom}
 use Rattle.definitions.specs.Intervals.{adjoins, joined, prepend, prependColumn, runs, sameInterval, isKept, noLater, putInOrder, byFirstColumn, countNew}
 use Rattle.definitions.specs.Model.{through, parent, available, intervals, isActivated, judge, activate, extract, step, extend, traceFrom, trace}
-use Rattle.definitions.specs.Labelling.{freshBlock, apply, leastOf, placeOf, activateAt, activateVertex, labelOf, settleAs, settle, chosen, placeIn, extractFrom, advance, steps, start, columns, labelling, reached, extractions, insertions, heldLabel, labels}
-use Rattle.definitions.specs.Judgement.{judgeBounds, judgeSize, judgeVertices, judgeRow, judgeRows, judgeBlocks, judgeSource, judgePiece, pieceAt, piecesOf, judgeFrom, judgeNetwork}
+use Rattle.definitions.specs.Labelling.{freshBlock, apply, leastOf, placeOf, activateAt, activateVertex, labelOf, arcOf, settleAs, settle, chosen, placeIn, arcAt, arcInto, extractFrom, advance, steps, start, columns, labelling, reached, extractions, insertions, heldLabel, labels, arcsTo, routeTo}
+use Rattle.definitions.specs.Judgement.{judgeBounds, judgeSize, judgeVertices, judgeRow, judgeRows, judgeBlocks, judgeSource, judgeTarget, judgePiece, pieceAt, piecesOf, judgeFrom, judgeNetwork}
 use Rattle.definitions.specs.Fields.{isDigit, skipBlanks, isNumeral, numeralValue, fieldOf, fieldAt, lengthAt, digitsOf, decimal, rightJustified, nineColumns}
-use Rattle.definitions.specs.Reading.{Read, refused, value, Plan, readField, readFields, judgeLineEnd, readLine, readRows, readPiece, pieceBytes, readPieces, judgeEnd, readBody, readPlan, judgeLength, readText}
+use Rattle.definitions.specs.Reading.{Read, refused, value, Plan, readField, readFields, judgeLineEnd, readLine, readRows, readPiece, pieceBytes, readPieces, judgeEnd, targetIn, questionOf, questionSize, judgeAsked, readQuestion, readBody, readPlan, judgeLength, readText}
 use Rattle.definitions.specs.Text.{sizesOf, verticesOf, tableOf, lengthsOf}
-use Rattle.definitions.specs.Entries.{AfterRead, AfterLabel, AfterSession, hasPlaces, judgeBuffers, afterRead, reading, judgeLabelling, labelAnswer, labelNetwork, rectangleOf, judgeSession, callAt, callsOf, answersOf, intervalsOf, session, listingLine, refusalLine, stateListing, planListing, listing}
+use Rattle.definitions.specs.Entries.{AfterRead, AfterLabel, AfterRoute, AfterSession, hasPlaces, judgeBuffers, heldTarget, afterRead, reading, judgeLabelling, labelAnswer, labelNetwork, judgeRoute, arcNumbers, arcsOf, routeAnswer, routeNetwork, rectangleOf, judgeSession, callAt, callsOf, answersOf, intervalsOf, session, listingLine, refusalLine, stateListing, routeListing, questionListing, planListing, listing}
 
 -- ---- the texts
 
@@ -43,6 +44,10 @@ longLength = depotWith "     0100000     7     5\n" "     1\n"
 longDiagonal : List ℕ
 longDiagonal = depotWith "100000     3     7     5\n" "     1\n"
 
+-- two pieces, of the vertices 1 and 2 and of 2 and 3, with a question line; vertex 4 is in none
+chain : String → List ℕ
+chain question = bytes "     4     2\n     2     1     2\n     0     5\n     6     0\n     2     2     3\n     0     7\n     8     0\n" ++ bytes question
+
 -- ---- what is run, and what it shows
 
 -- what stands in a lent buffer before: every place that must be written or left shows
@@ -58,6 +63,8 @@ pub data Example : Type 0 where
   read : List ℕ → Example
   -- the text reader, then the labelling of the network that it left in the lent buffers
   lent : List ℕ → Example
+  -- the text reader, then the route to its target in the network that it left in the lent buffers
+  route : List ℕ → Example
   -- a block of a text, by its number
   block : List ℕ → ℕ → Example
   -- a session on two rows of two lengths, each call three numbers
@@ -70,10 +77,12 @@ pub data Shown : Type 0 where
   writes : List ℕ → Shown
   -- vertices reached, columns extracted, intervals inserted
   counts : ℕ → ℕ → ℕ → Shown
-  -- the reader's number, n, p and source, and its three buffers
-  fills : ℕ → ℕ → ℕ → ℕ → List ℕ → List ℕ → List ℕ → Shown
-  -- the same, and the label buffer
+  -- the reader's number, n, p, source and target, and its three buffers
+  fills : ℕ → ℕ → ℕ → ℕ → ℕ → List ℕ → List ℕ → List ℕ → Shown
+  -- vertices reached, columns extracted, intervals inserted, and the label buffer
   lists : ℕ → ℕ → ℕ → List ℕ → Shown
+  -- a route's number, label and number of arcs, and its buffer
+  leads : ℕ → ℕ → ℕ → List ℕ → Shown
   -- the vertices of a block's rows and of its columns, and its entries row by row
   shows : List ℕ → List ℕ → List (List ℕ) → Shown
   -- a session's number, its answer buffer and its interval buffer, inserted and removed
@@ -89,13 +98,19 @@ readInto : List ℕ → AfterRead
 readInto text = reading text (replicate sizePlaces filler) (replicate vertexPlaces filler) (replicate lengthPlaces filler)
 
 filled : AfterRead → Shown
-filled r = fills (r .answer .number) (r .answer .n) (r .answer .p) (r .answer .source) (r .sizes) (r .vertices) (r .lengths)
+filled r = fills (r .answer .number) (r .answer .n) (r .answer .p) (r .answer .source) (r .answer .target) (r .sizes) (r .vertices) (r .lengths)
 
 labelLent : AfterRead → AfterLabel
 labelLent r = labelNetwork (r .answer .n) (r .answer .p) (r .sizes) (r .vertices) (r .lengths) (r .answer .source) (replicate labelPlaces filler)
 
 listed : AfterLabel → Shown
 listed a = lists (a .answer .reached) (a .answer .extracted) (a .answer .inserted) (a .labels)
+
+routeLent : AfterRead → AfterRoute
+routeLent r = routeNetwork (r .answer .n) (r .answer .p) (r .sizes) (r .vertices) (r .lengths) (r .answer .source) (r .answer .target) (replicate routePlaces filler)
+
+led : AfterRoute → Shown
+led a = leads (a .answer .number) (a .answer .label) (a .answer .arcs) (a .arcs)
 
 entriesOf : Block → List (List ℕ)
 entriesOf b = map (λ i. map (λ k. b .lengths i k) (upFrom 0 (length (b .cols)))) (upFrom 0 (length (b .rows)))
@@ -117,6 +132,7 @@ run (program text) = writes (listing text)
 run (labelled text) = countsOf (readText text)
 run (read text) = filled (readInto text)
 run (lent text) = listed (labelLent (readInto text))
+run (route text) = led (routeLent (readInto text))
 run (block text number) = blockIn number (readText text)
 run (calls row0 row1 ks) = left (runSession row0 row1 ks)
 run (field s) = refuses ((fieldOf (bytes s)) .number)
@@ -150,8 +166,12 @@ onBlock p ks answers kept inserted removed = row p (calls (5 ∷ 7 ∷ []) (6 �
 -- what the reader leaves of the depot example with a first row of the table
 depotFills : List ℕ → Shown
 depotFills first =
-    fills 0 5 1 1 (padded sizePlaces 0 (4 ∷ [])) (padded vertexPlaces 0 (1 ∷ 2 ∷ 3 ∷ 4 ∷ []))
+    fills 0 5 1 1 noTarget (padded sizePlaces 0 (4 ∷ [])) (padded vertexPlaces 0 (1 ∷ 2 ∷ 3 ∷ 4 ∷ []))
     (padded lengthPlaces 0 (flatMap (padded rowPlaces 0) (first ∷ (3 ∷ 0 ∷ 4 ∷ 6 ∷ []) ∷ (7 ∷ 4 ∷ 0 ∷ 2 ∷ []) ∷ (5 ∷ 6 ∷ 2 ∷ 0 ∷ []) ∷ [])))
+
+-- what it leaves of a text that it refuses by a number
+refusedBy : ℕ → Shown
+refusedBy k = fills k 0 0 0 0 (replicate sizePlaces 0) (replicate vertexPlaces 0) (replicate lengthPlaces 0)
 
 pub table : List Row
 table =
@@ -175,10 +195,31 @@ table =
     ∷ row 12 (program longLength) (writes (bytes "        1        4        8        8\n        1        0\n        2       11\n        3        7\n        4        5\n        5        -\n"))
     ∷ row 12 (read longLength) (depotFills (0 ∷ 100000 ∷ 7 ∷ 5 ∷ []))
     ∷ row 12 (lent longLength) (lists 4 8 8 (padded labelPlaces unreached (0 ∷ 11 ∷ 7 ∷ 5 ∷ [])))
-    ∷ row 12 (read longDiagonal) (fills 6 0 0 0 (replicate sizePlaces 0) (replicate vertexPlaces 0) (replicate lengthPlaces 0))
+    ∷ row 12 (read longDiagonal) (refusedBy 6)
+    ∷ row 13 (program (chain "     1     3\n")) (writes (bytes "        1        3       12        2\n        1        2        1        5\n        2        3        2        7\n"))
+    ∷ row 13 (route (chain "     1     3\n")) (leads 0 12 2 (padded routePlaces 0 (1 ∷ 2 ∷ 1 ∷ 5 ∷ 2 ∷ 3 ∷ 2 ∷ 7 ∷ [])))
+    ∷ row 13 (program (chain "     3     1\n")) (writes (bytes "        3        1       14        2\n        3        2        2        8\n        2        1        1        6\n"))
+    ∷ row 13 (program (depot "     1     3\n")) (writes (bytes "        1        3        7        1\n        1        3        1        7\n"))
+    ∷ row 13 (read (chain "     1     3\n"))
+    (fills 0 4 2 1 3 (padded sizePlaces 0 (2 ∷ 2 ∷ [])) (padded vertexPlaces 0 (padded rowPlaces 0 (1 ∷ 2 ∷ []) ++ (2 ∷ 3 ∷ [])))
+    (padded lengthPlaces 0 (padded tablePlaces 0 (padded rowPlaces 0 (0 ∷ 5 ∷ []) ++ (6 ∷ 0 ∷ [])) ++ (padded rowPlaces 0 (0 ∷ 7 ∷ []) ++ (8 ∷ 0 ∷ [])))))
+    ∷ row 14 (program (chain "     1     4\n")) (writes (bytes "        1        4        -        0\n"))
+    ∷ row 14 (route (chain "     1     4\n")) (leads 0 unreached 0 (replicate routePlaces 0))
+    ∷ row 15 (program (chain "     3     3\n")) (writes (bytes "        3        3        0        0\n"))
+    ∷ row 15 (route (chain "     3     3\n")) (leads 0 0 0 (replicate routePlaces 0))
+    ∷ row 16 (read (chain "     1     5\n")) (refusedBy 12)
+    ∷ row 16 (labelled (chain "     1     0\n")) (refuses 12)
+    ∷ row 16 (program (chain "     1     5\n")) (writes (bytes "refused 12\n"))
+    ∷ row 16 (route (chain "     1\n")) (leads 12 0 0 (replicate routePlaces filler))
+    ∷ row 17 (read (chain "     5     5\n")) (refusedBy 8)
+    ∷ row 18 (labelled (chain "     5     3\n\n")) (refuses 8)
+    ∷ row 18 (labelled (chain "     1     5\n\n")) (refuses 12)
+    ∷ row 18 (read (chain "     1     3\n\n")) (refusedBy 3)
+    ∷ row 18 (labelled (chain "     5     5     1\n")) (refuses 3)
+    ∷ row 18 (labelled (chain "     5     5")) (refuses 3)
     ∷ []
 
--- every row shows what document 01 says, P7 to P12 with requests 1 to 3 of document 02
+-- every row shows what document 01 says, from P7 on with requests 1 to 4 of document 02
 pub examples : map (λ r. run (r .example)) table ≡ map (λ r. r .shown) table
-unfolding bytes depotWith depot longLength longDiagonal depotFills countsOf readInto filled labelLent listed entriesOf blockIn runSession left run row activation extraction done onBlock table flatMap all every mem different total upFrom downTo padded within firstCause splits splitsOf windows windowsOf rowsOf columnsOf corners isMonge lesser least through parent available placed leastFrom adjoins joined prepend prependColumn runs intervals sameInterval isKept noLater putInOrder byFirstColumn countNew isActivated judge activate extract step extend traceFrom trace entry sizeOf blockOf blocksOf blocks passes freshBlock apply leastOf placeOf activateAt activateVertex labelOf settleAs settle chosen placeIn extractFrom advance steps start columns labelling reached extractions insertions heldLabel labels judgeBounds judgeSize judgeVertices judgeRow judgeRows judgeBlocks judgeSource judgePiece pieceAt piecesOf judgeFrom judgeNetwork isDigit skipBlanks isNumeral numeralValue fieldOf fieldAt lengthAt readField readFields judgeLineEnd readLine readRows readPiece pieceBytes readPieces judgeEnd readBody readPlan judgeLength readText sizesOf verticesOf tableOf lengthsOf hasPlaces judgeBuffers afterRead reading judgeLabelling labelAnswer labelNetwork rectangleOf judgeSession callAt callsOf answersOf intervalsOf session digitsOf decimal rightJustified nineColumns listingLine refusalLine stateListing planListing listing
+unfolding bytes depotWith depot longLength longDiagonal chain depotFills refusedBy countsOf readInto filled labelLent listed routeLent led entriesOf blockIn runSession left run row activation extraction done onBlock table flatMap all every mem different total upFrom downTo padded within firstCause splits splitsOf windows windowsOf rowsOf columnsOf corners isMonge lesser least through parent available placed leastFrom adjoins joined prepend prependColumn runs intervals sameInterval isKept noLater putInOrder byFirstColumn countNew isActivated judge activate extract step extend traceFrom trace entry sizeOf blockOf blocksOf blocksFrom blocks passes freshBlock apply leastOf placeOf activateAt activateVertex labelOf arcOf settleAs settle chosen placeIn arcAt arcInto extractFrom advance steps start columns labelling reached extractions insertions heldLabel labels arcsTo routeTo judgeBounds judgeSize judgeVertices judgeRow judgeRows judgeBlocks judgeSource judgeTarget judgePiece pieceAt piecesOf judgeFrom judgeNetwork isDigit skipBlanks isNumeral numeralValue fieldOf fieldAt lengthAt readField readFields judgeLineEnd readLine readRows readPiece pieceBytes readPieces judgeEnd targetIn questionOf questionSize judgeAsked readQuestion readBody readPlan judgeLength readText sizesOf verticesOf tableOf lengthsOf hasPlaces judgeBuffers heldTarget afterRead reading judgeLabelling labelAnswer labelNetwork judgeRoute arcNumbers arcsOf routeAnswer routeNetwork rectangleOf judgeSession callAt callsOf answersOf intervalsOf session digitsOf decimal rightJustified nineColumns listingLine refusalLine stateListing routeListing questionListing planListing listing
 examples = refl

@@ -1,7 +1,8 @@
--- Document 01, "Causes that turn an input away": the causes 4 to 8 of a network, each 0 or its number in 01's table.
---   judgeBounds judgeSize judgeVertices judgeRow judgeBlocks judgeSource   one cause each
---   judgePiece                                                             a piece
---   pieceAt piecesOf judgeNetwork                                          a network in lent buffers
+-- Document 01, "Causes that turn an input away", and document 02, request 4: the causes 4 to 8 and 12 of a network and a question, each 0 or its number.
+--   judgeBounds judgeSize judgeVertices judgeRow judgeBlocks   one cause each of a network
+--   judgeSource judgeTarget                                    of a question
+--   judgePiece                                                 a piece
+--   pieceAt piecesOf judgeNetwork                              a network in lent buffers
 -- The text reader and the labelling judge by these same definitions.
 use mathlib.Core.Bool.{cond, _&&_}
 use mathlib.Core.List.{List, [], _∷_, map}
@@ -34,13 +35,17 @@ unfoldable pub judgeRows : ℕ → List (List ℕ) → ℕ
 judgeRows i [] = 0
 judgeRows i (row ∷ rows) = firstCause (judgeRow i row ∷ judgeRows (suc i) rows ∷ [])
 
--- a block that is not Monge
+-- a block that is not Monge; the check does not look at the number of the piece
 unfoldable pub judgeBlocks : Piece → ℕ
-judgeBlocks q = cond (every passes (blocksOf q)) 0 7
+judgeBlocks q = cond (every passes (blocksOf 0 q)) 0 7
 
 -- a source that the network does not have
 unfoldable pub judgeSource : ℕ → ℕ → ℕ
 judgeSource n source = cond (within n source) 0 8
+
+-- a target that the network does not have (02, request 4)
+unfoldable pub judgeTarget : ℕ → ℕ → ℕ
+judgeTarget n target = cond (within n target) 0 12
 
 -- a piece whose size is given as m, in a network of n vertices: its blocks are judged behind its last row
 unfoldable pub judgePiece : ℕ → ℕ → Piece → ℕ

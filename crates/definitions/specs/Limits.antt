@@ -1,10 +1,11 @@
 -- The limits of documents 01 and 02, each number under one name, and the two operations on lengths. What follows from another number is computed from it.
 --   maxVertices maxPieces maxSize maxLength maxLabel   of a network
+--   maxArcs                                            of a route
 --   maxSide maxCalls maxText                           of a session and of a text
 --   rowPlaces .. intervalPlaces, linePlaces            the sizes of the lent buffers
 --   columnBytes lineFields lastPlace                   a field that is written; the fields of a line, and the last of them
---   callSize answerSize intervalSize                   how many numbers a call, an answer and an interval are
---   unreached unusedInterval                           what stands where there is no label, no interval
+--   callSize answerSize intervalSize arcSize           how many numbers a call, an answer, an interval and an arc are
+--   unreached noTarget unusedInterval                  what stands where there is no label, no target, no interval
 --   sum below                                          a label and a length; the order of sums
 -- Each comment names the section of 01, or the request of 02, that the lines below it state.
 use mathlib.Core.Bool.{Bool}
@@ -61,6 +62,16 @@ lengthPlaces = maxPieces * tablePlaces
 abbrev pub labelPlaces : ℕ
 labelPlaces = maxVertices
 
+-- (02, request 4) A route passes no vertex twice. Four numbers are an arc: from vertex, to vertex, piece, length. The buffer of a route has 1,020 places.
+abbrev pub maxArcs : ℕ
+maxArcs = maxVertices - 1
+
+abbrev pub arcSize : ℕ
+arcSize = 4
+
+abbrev pub routePlaces : ℕ
+routePlaces = arcSize * maxArcs
+
 -- (01, The heap of one block) Three numbers are a call and an answer.
 abbrev pub callSize : ℕ
 callSize = 3
@@ -102,6 +113,10 @@ lastPlace = lineFields - 1
 -- (01, The labelling) It stands where no label is: the largest number of 32 bits.
 abbrev pub unreached : ℕ
 unreached = 4294967295
+
+-- (02, request 4) The text reader returns it where a question has no target.
+abbrev pub noTarget : ℕ
+noTarget = 4294967295
 
 -- (01, The heap of one block) It fills the unused places of the interval buffer.
 abbrev pub unusedInterval : ℕ

@@ -2,12 +2,16 @@
 --   Rectangle Piece entry sizeOf     pieces with their vertices and lengths
 --   ArcIn Arc Walk                   arcs, and walks with their lengths
 --   Shortest Unreached Distance      what a label says
+--   RouteArc IsArc Joined            arcs of a route, one behind the other
+--   Route Routed                     what a route says
 use mathlib.Core.Path.{_≡_}
+use mathlib.Core.Bool.{true}
 use mathlib.Core.Logic.{_≢_}
-use mathlib.Core.List.{List, []}
-use Prim.Native.Nat.{ℕ, _+_, _≤_, _<_}
+use mathlib.Core.List.{List, [], _∷_, map}
+use Prim.Native.Nat.{ℕ, _+_, _-_, _≤_, _<_}
 use lib.ListN.{getD, length}
-use Rattle.definitions.specs.Limits.{unreached}
+use Rattle.definitions.specs.Limits.{maxArcs, unreached}
+use Rattle.definitions.specs.Lists.{different, total}
 
 -- The entry at a row and a column. How many rows and columns there are is given beside it.
 abbrev pub Rectangle : Type 0
@@ -65,3 +69,42 @@ Unreached qs s v = (l : ℕ) → Walk (Arc qs) s v l → ⊥
 pub data Distance (qs : List Piece) (s v : ℕ) : ℕ → Type 0 where
   distance : (label : ℕ) → label < unreached → Shortest qs s v label → Distance qs s v label
   none : Unreached qs s v → Distance qs s v unreached
+
+-- ---- a route, arc by arc (document 02, request 4)
+
+-- An arc of a route, 02's leg: from a vertex to a vertex, in a piece, with its length. Pieces count from 1.
+pub record RouteArc : Type 0 where
+  pub from : ℕ
+  pub to : ℕ
+  pub piece : ℕ
+  pub length : ℕ
+
+-- it is an arc of the piece of its number
+pub record IsArc (qs : List Piece) (a : RouteArc) : Type 0 where
+  pub low : 1 ≤ a .piece
+  pub high : a .piece ≤ length qs
+  pub arc : ArcIn (getD qs (a .piece - 1) noPiece) (a .from) (a .to) (a .length)
+
+-- the arcs have a property and join up from s to t: the first starts at s, each other one where the one before it ends, and the last ends at t
+abbrev pub Joined : (RouteArc → Type 0) → ℕ → ℕ → List RouteArc → Type 0
+Joined P s t [] = s ≡ t
+Joined P s t (a ∷ arcs) = (a .from ≡ s) × P a × Joined P (a .to) t arcs
+
+-- the vertices that arcs from s on pass, in order
+abbrev pub verticesOn : ℕ → List RouteArc → List ℕ
+verticesOn s arcs = s ∷ map (λ a. a .to) arcs
+
+-- arcs that join up from s to t, no vertex twice, 255 at most, with lengths that add up to the label
+pub record Route (qs : List Piece) (s t label : ℕ) (arcs : List RouteArc) : Type 0 where
+  pub joins : Joined (IsArc qs) s t arcs
+  pub no-repeat : different (verticesOn s arcs) ≡ true
+  pub adds : total (map (λ a. a .length) arcs) ≡ label
+  pub few : length arcs ≤ maxArcs
+
+-- What a target's label and its arcs say: the label is the distance, and the arcs are a route of it, or none where no walk leads to the target. To the
+-- source itself there are none either.
+pub record Routed (qs : List Piece) (s t label : ℕ) (arcs : List RouteArc) : Type 0 where
+  pub distance : Distance qs s t label
+  pub route : label ≢ unreached → Route qs s t label arcs
+  pub nowhere : label ≡ unreached → arcs ≡ []
+  pub at-source : s ≡ t → arcs ≡ []

@@ -1,6 +1,8 @@
--- What the session and the labelling promise in plain terms, beside their equations with `session` and `labelNetwork` of the file `Entries`.
+-- What the session, the labelling and the route promise in plain terms, beside their equations with `session`, `labelNetwork` and `routeNetwork` of the file
+-- `Entries`.
 --   PlainSession   the intervals that an accepted session keeps and their bests, its counts, and what its extractions answer
 --   PlainLabels    the labels of an accepted network, demand 2, and the counts
+--   PlainRoute     the arcs to a target of an accepted network: document 02, request 4
 use mathlib.Core.Path.{_≡_}
 use mathlib.Core.Bool.{not}
 use mathlib.Core.List.{List, map}
@@ -9,15 +11,16 @@ use Prim.Native.Nat.{ℕ, suc, _+_, _*_, _≤_, _<_}
 use lib.Dec.{eqb}
 use lib.ListN.{getD, length}
 use Rattle.definitions.specs.declared.LabelAnswer.{LabelAnswer}
+use Rattle.definitions.specs.declared.RouteAnswer.{RouteAnswer}
 use Rattle.definitions.specs.declared.SessionAnswer.{SessionAnswer}
 use Rattle.definitions.specs.Limits.{maxLabel, labelPlaces, unreached}
 use Rattle.definitions.specs.Lists.{Every, count}
-use Rattle.definitions.specs.Network.{Distance}
+use Rattle.definitions.specs.Network.{Distance, RouteArc, Routed}
 use Rattle.definitions.specs.Blocks.{weight}
 use Rattle.definitions.specs.Intervals.{Interval, Rising, Distinct, FirstsRise}
 use Rattle.definitions.specs.Model.{fresh, intervals, Listed, HasBest, trace, AllExtractLeast, allowances}
 use Rattle.definitions.specs.Judgement.{piecesOf}
-use Rattle.definitions.specs.Entries.{rectangleOf, callsOf, answersIn, intervalsOf}
+use Rattle.definitions.specs.Entries.{rectangleOf, callsOf, answersIn, intervalsOf, arcsOf}
 
 -- What an accepted session returns and leaves. The interval buffer lists exactly the model's intervals, by rising first column, and each once, with its
 -- best.
@@ -48,3 +51,11 @@ pub record PlainLabels (n p : ℕ) (sizes vertices lengths : List ℕ) (source :
   pub reached-is : r .reached ≡ count (λ i. not (eqb (getD after i 0) unreached)) labelPlaces
   pub few-extracted : r .extracted ≤ weight (piecesOf p sizes vertices lengths)
   pub few-inserted : r .inserted ≤ 5 * weight (piecesOf p sizes vertices lengths)
+
+-- The buffer lists the arcs of a route from the source to the target: they join up, each is an arc of its piece, no vertex stands twice, there are at most
+-- 255, and their lengths add up to the label, which is the distance. To an unreached target, and to the source itself, there are none.
+pub record PlainRoute (p : ℕ) (sizes vertices lengths : List ℕ) (source target : ℕ) (r : RouteAnswer) (after : List ℕ) : Type 0 where
+  pub arcs : List RouteArc
+  pub written : after ≡ arcsOf arcs
+  pub counted : r .arcs ≡ length arcs
+  pub routed : Routed (piecesOf p sizes vertices lengths) source target (r .label) arcs

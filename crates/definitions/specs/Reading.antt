@@ -2,17 +2,19 @@
 --   Read require                          refused by a number, or read
 --   FieldReading readFields readLine      a line's layout: its fields, of one kind, and one byte 10
 --   readRows readPiece readPieces         pieces, judged as they are read
+--   Question readQuestion                 the question line, of one field or two: document 02, request 4
 --   Plan readBody readPlan readText       the whole text, its length judged first
 -- Each part is read at its place in the text: that of the part before it plus the bytes of that part.
 use mathlib.Core.Bool.{cond}
 use mathlib.Core.List.{List, [], _∷_, map}
+use mathlib.Core.Option.{Option, none, some}
 use Prim.Native.Nat.{ℕ, zero, suc, _+_, _*_}
 use lib.Dec.{eqb, leb}
 use lib.ListN.{getD, length}
 use Rattle.definitions.specs.Limits.{maxText}
 use Rattle.definitions.specs.Lists.{total}
 use Rattle.definitions.specs.Network.{Piece, sizeOf}
-use Rattle.definitions.specs.Judgement.{judgeBounds, judgeSize, judgeVertices, judgeRow, judgeBlocks, judgeSource}
+use Rattle.definitions.specs.Judgement.{judgeBounds, judgeSize, judgeVertices, judgeRow, judgeBlocks, judgeSource, judgeTarget}
 use Rattle.definitions.specs.Fields.{lineEnd, fieldBytes, FieldAnswer, fieldAt, lengthAt}
 
 -- refused by a number, or read
@@ -95,27 +97,57 @@ readPieces text n at (suc k) = do
   qs ← readPieces text n (at + pieceBytes q) k
   value (q ∷ qs)
 
+-- nothing stands after a place
+unfoldable pub judgeEnd : List ℕ → ℕ → ℕ
+judgeEnd text at = cond (eqb (length text) at) 0 3
+
+-- what a question line asks for: from a source the labels of all vertices, or the route to a target
+pub record Question : Type 0 where
+  pub source : ℕ
+  pub target : Option ℕ
+
+-- what its fields say: the source, and the target if there are two
+unfoldable pub targetIn : List ℕ → Option ℕ
+targetIn [] = none
+targetIn (source ∷ []) = none
+targetIn (source ∷ target ∷ rest) = some target
+
+unfoldable pub questionOf : List ℕ → Question
+questionOf fields = record { source = getD fields 0 0; target = targetIn fields }
+
+-- how many fields it has: one where a line's end follows the first, else two
+unfoldable pub questionSize : List ℕ → ℕ → ℕ
+questionSize text at = cond (eqb (judgeLineEnd text (at + fieldBytes)) 0) 1 2
+
+-- a target is judged where there is one
+unfoldable pub judgeAsked : ℕ → Option ℕ → ℕ
+judgeAsked n none = 0
+judgeAsked n (some target) = judgeTarget n target
+
+-- Its layout, the source, the target. Bytes behind it are judged once both are.
+unfoldable pub readQuestion : List ℕ → ℕ → ℕ → Read Question
+readQuestion text n at = do
+  fields ← readLine fieldAt text at (questionSize text at)
+  let question = questionOf fields
+  _ ← require (judgeSource n (question .source))
+  _ ← require (judgeAsked n (question .target))
+  _ ← require (judgeEnd text (at + lineBytes (questionSize text at)))
+  value question
+
 -- what an accepted text says
 pub record Plan : Type 0 where
   pub n : ℕ
   pub pieces : List Piece
   pub source : ℕ
+  pub target : Option ℕ
 
--- nothing stands after a place
-unfoldable pub judgeEnd : List ℕ → ℕ → ℕ
-judgeEnd text at = cond (eqb (length text) at) 0 3
-
--- The pieces and the line of the source, behind the line of n and p. Bytes behind the last line are judged once the source is.
+-- the pieces and the question line, behind the line of n and p
 unfoldable pub readBody : List ℕ → ℕ → ℕ → Read Plan
 readBody text n p = do
   _ ← require (judgeBounds n p)
   qs ← readPieces text n (lineBytes 2) p
-  let at = lineBytes 2 + total (map pieceBytes qs)
-  question ← readLine fieldAt text at 1
-  let source = getD question 0 0
-  _ ← require (judgeSource n source)
-  _ ← require (judgeEnd text (at + lineBytes 1))
-  value (record { n = n; pieces = qs; source = source })
+  question ← readQuestion text n (lineBytes 2 + total (map pieceBytes qs))
+  value (record { n = n; pieces = qs; source = question .source; target = question .target })
 
 -- the text from front to back
 unfoldable pub readPlan : List ℕ → Read Plan

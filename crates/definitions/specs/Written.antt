@@ -1,10 +1,12 @@
 -- Document 01, "Text layout": a plan as its lines, the plans that no cause turns away, and the texts whose first cause is a diagonal. The file `Text` says which of
 -- them are read and which are refused by 6.
---   writtenField writtenLine writtenPiece written   a number, a line, a piece and a plan as bytes
+--   writtenField writtenLine writtenPiece           a number, a line and a piece as bytes
+--   questionFields written                          the fields of a question line, and a plan as bytes
 --   SoundPiece SoundPlan                            no cause turns it away, and each table is as large as its piece
 --   StoppedPiece DiagonalFirst                      the first cause is a length on the diagonal that is not 0
 use mathlib.Core.Path.{_≡_}
 use mathlib.Core.List.{List, [], _∷_, _++_, flatMap}
+use mathlib.Core.Option.{Option, none, some}
 use mathlib.Core.Logic.{_≢_}
 use Prim.Native.Nat.{ℕ, _≤_, _<_}
 use lib.ListN.{getD, length}
@@ -13,7 +15,7 @@ use Rattle.definitions.specs.Lists.{Every}
 use Rattle.definitions.specs.Network.{Piece, sizeOf}
 use Rattle.definitions.specs.Judgement.{judgeBounds, judgeSize, judgeVertices, judgeRows, judgePiece, judgeSource}
 use Rattle.definitions.specs.Fields.{lineEnd, fieldBytes, decimal, rightJustified}
-use Rattle.definitions.specs.Reading.{Plan}
+use Rattle.definitions.specs.Reading.{judgeAsked, Plan}
 
 -- ---- as bytes
 
@@ -29,9 +31,15 @@ writtenLine xs = flatMap writtenField xs ++ (lineEnd ∷ [])
 unfoldable pub writtenPiece : Piece → List ℕ
 writtenPiece q = writtenLine (sizeOf q ∷ q .vertices) ++ flatMap writtenLine (q .rows)
 
--- a line of n and the number of pieces, the pieces, a line of the source
+-- the fields of a question line: the source, and the target if there is one
+unfoldable pub questionFields : ℕ → Option ℕ → List ℕ
+questionFields source none = source ∷ []
+questionFields source (some target) = source ∷ target ∷ []
+
+-- a line of n and the number of pieces, the pieces, the question line
 unfoldable pub written : Plan → List ℕ
-written plan = writtenLine (plan .n ∷ length (plan .pieces) ∷ []) ++ (flatMap writtenPiece (plan .pieces) ++ writtenLine (plan .source ∷ []))
+written plan =
+    writtenLine (plan .n ∷ length (plan .pieces) ∷ []) ++ (flatMap writtenPiece (plan .pieces) ++ writtenLine (questionFields (plan .source) (plan .target)))
 
 -- ---- sound
 
@@ -41,11 +49,12 @@ pub record SoundPiece (n : ℕ) (q : Piece) : Type 0 where
   pub wide : Every (λ row. length row ≡ sizeOf q) (q .rows)
   pub judgement : judgePiece n (sizeOf q) q ≡ 0
 
--- no cause turns n, the number of pieces, a piece or the source away
+-- no cause turns n, the number of pieces, a piece, the source or the target away
 pub record SoundPlan (plan : Plan) : Type 0 where
   pub bounds : judgeBounds (plan .n) (length (plan .pieces)) ≡ 0
   pub each : Every (SoundPiece (plan .n)) (plan .pieces)
   pub source-in : judgeSource (plan .n) (plan .source) ≡ 0
+  pub target-in : judgeAsked (plan .n) (plan .target) ≡ 0
 
 -- ---- stopped at a diagonal
 

@@ -6,22 +6,25 @@
 --   Tables                the matrix, and the one array of prepared numbers: they stay
 --   Heaps                 the tables, the labels of all rows, and the words of all heaps
 --   Arrays                the heaps, and the tournament of the blocks
---   Store                 the arrays, and the labels of the vertices
+--   Store                 the arrays, the labels of the vertices, and the words of the arcs that they were settled by
 --
 -- The labelling: all arrays against the definition's state (`Labeller/StepLoop`)
---   IsLabelling           the answer and the labels are those of the definition's labelling
---   LabelAllGiven         the tables are those of given pieces, the heaps are fresh, the label buffer is blank
+--   LabelArcsLeaves       the labels and the words of the arcs are those of the labelling; a refusal leaves both buffers (`Labeller/LabelEntry`)
+--   IsLabelling           the answer, the labels and the words of the arcs are those of the definition's labelling
+--   LabelAllGiven         the tables are those of given pieces, the heaps are fresh, both buffers are blank
 --   LabelAllNeeds Leaves  for some pieces, with a source; the answer and the labels are the labelling, for all pieces
 --   RunStepsNeeds Leaves Keeps    the source is settled; the steps end in the labelling; whatever was started goes on
 --   AdvanceNeeds Leaves   after some steps; one extraction more, or the labelling has ended
 --   Advanced              which of the two, by the function's answer
 --   Underway              the tables are those of given pieces, and the store holds the definition's state after as many steps as the answer counts
 --   AfterSteps            the store holds the definition's state after k steps
+--   ArcsHeld HeldArc      the words hold the arcs that the vertices were settled by; a word holds one, or that there is none (`Labeller/ArcWords`)
+--   Traced ArcPlaces      a word for each entry of the blocks; the places of both ends are those of one piece
 --
 -- A vertex (`Labeller/Extractions`, `Labeller/Vertices`, `Labeller/Settling`, `Labeller/Mapped`)
 --   ExtractNeeds Leaves   some blocks whose columns are in the tables; the column of least sum of all blocks is extracted, or there is none
 --   Stepped               which of the two, by the function's answer
---   VertexExtracted       the block and the column, and that the column's vertex is the one that is answered
+--   VertexExtracted       the block and the column, that the column's vertex is the one that is answered, and the word of the arc into it
 --   Columned              the tables have the vertex of each column of each block
 --   SettleGiven           the tables are those of given pieces, the arrays hold given states, and no activation of the vertex is refused
 --   SettleNeeds Leaves Keeps    for some pieces and states; the vertex is activated in all blocks; in those of the first d pieces
@@ -43,7 +46,7 @@
 --   ActivateHeapNeeds Leaves, ExtractHeapNeeds Leaves      a call on a block's heap
 --   HeapActivated         the heap holds the next model, and the block's least sum falls as is returned
 --   BlockKeyNeeds Leaves  the key of its least sum
---   CallDone ExtractionDone    the states after a call, and how many intervals are inserted; an extraction's answer
+--   CallDone ExtractionDone    the states after a call, and how many intervals are inserted; an extraction's answer and the column's parent
 --   Accepts HasBlock      an activation that is not refused; a block of some states that the heaps hold
 --   Running               the heaps hold given states, and the tournament is that of their least sums
 --   HoldsBlocks HoldsBlock     the heaps hold the models of given states; one block's heap holds its model
@@ -72,7 +75,8 @@
 -- The heap of one block: its words against the model (`HeldModel` of the definitions, `Heap/HeapCalls`, `Heap/LeastColumn`, `Heap/RowBest`, `Heap/Holds`)
 --   Checked Holds HoldsSome    the block that is lent is checked; the words hold a given model of it; some model
 --   ActivateGiven ActivateNeeds Leaves    the model is held, and the activation is not refused; for some model; the next model is held, for every model
---   MinExtracted ExtractMinLeaves    the column of least sum is extracted and answered; for every model
+--   MinExtracted ExtractMinLeaves    the column of least sum is extracted and answered, with its parent; for every model
+--   ParentIs              the parent of a column that is handed out
 --   Becomes               the words hold the next model, and so many intervals are inserted and removed
 --   RowActivated Falls    the next model is held, and the least sum falls as is returned
 --   LeastLeaves Keeps     the least of the bests; of the intervals so far

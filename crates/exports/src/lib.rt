@@ -1,12 +1,13 @@
 // The entries for C and Rust, as one static library. Each promises what the entry that it calls promises; the field reader's value goes to a lent buffer,
 // since an enum does not cross to C.
 ghost use mathlib.Core.Path.{_≡_};
-ghost use Rattle.definitions.specs.Entries.{reading, labelNetwork, session, writeField, writeListing, judgeLent, fieldEntry};
-ghost use Rattle.definitions.specs.PlainPromises.{PlainSession, PlainLabels};
+ghost use Rattle.definitions.specs.Entries.{reading, labelNetwork, routeNetwork, session, writeField, writeListing, judgeLent, fieldEntry};
+ghost use Rattle.definitions.specs.PlainPromises.{PlainSession, PlainLabels, PlainRoute};
 use bounds::Cause;
 use definitions::Field;
 use definitions::LabelAnswer;
 use definitions::ReadAnswer;
+use definitions::RouteAnswer;
 use definitions::SessionAnswer;
 
 // Six bytes at a place. The value goes to a buffer of one place: one of another size gets 1 and is left, and no field gets 3 and 0.
@@ -89,6 +90,23 @@ pub extern "C" fn rabdzhine_label_network(
     ensures plain { λ r. ⌜ (r .number ≡ 0 → PlainLabels n p (now (sizes .entry)) (now (vertices .entry)) (now (lengths .entry)) source r (now (labels .exit))) ⌝ }
 {
     engine::label_network(n, p, sizes, vertices, lengths, source, labels)
+}
+
+#[no_mangle]
+pub extern "C" fn rabdzhine_route_network(
+    n: u32,
+    p: u32,
+    sizes: &[u32],
+    vertices: &[u32],
+    lengths: &[u32],
+    source: u32,
+    target: u32,
+    arcs: &mut [u32],
+) -> RouteAnswer
+    ensures routed { λ r. ⌜ record { answer = r; arcs = now (arcs .exit) } ≡ routeNetwork n p (now (sizes .entry)) (now (vertices .entry)) (now (lengths .entry)) source target (now (arcs .entry)) ⌝ }
+    ensures plain { λ r. ⌜ (r .number ≡ 0 → PlainRoute p (now (sizes .entry)) (now (vertices .entry)) (now (lengths .entry)) source target r (now (arcs .exit))) ⌝ }
+{
+    routes::route_network(n, p, sizes, vertices, lengths, source, target, arcs)
 }
 
 #[no_mangle]

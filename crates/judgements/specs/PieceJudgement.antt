@@ -43,23 +43,23 @@ unfoldable pub passesIn : List (List ℕ) → ℕ → Window → Bool
 passesIn matrix m w = mongeIn matrix (w .row0) (m - (w .col0 + w .cols)) (w .rows) (w .cols)
 
 pub blocks-windows : (m : ℕ) (lengths : List ℕ) (q : Piece) → sizeOf q ≡ m → q .rows ≡ rowsIn m lengths → m ≤ maxSize
-    → every passes (blocksOf q) ≡ every (passesIn (reversed m lengths) m) (windowsOf m)
+    → every passes (blocksOf 0 q) ≡ every (passesIn (reversed m lengths) m) (windowsOf m)
 unfolding blocksOf passesIn
 blocks-windows m lengths q size same small =
     rw size
-    (every-of-map passes (blockOf q) (windowsOf m)
-    ∙ every-same (Inside m) _ _ (windowsOf m) (λ w h. block-passes m lengths q same small w (h .rows-in) (h .cols-in)) (windows-inside m small))
+    (every-of-map passes (blockOf 0 q) (windowsOf m)
+    ∙ every-same (Inside m) _ _ (windowsOf m) (λ w h. block-passes m lengths q same small 0 w (h .rows-in) (h .cols-in)) (windows-inside m small))
 
-block-alike : (q q′ : Piece) → q .rows ≡ q′ .rows → (w : Window) → passes (blockOf q w) ≡ passes (blockOf q′ w)
+block-alike : (q q′ : Piece) → q .rows ≡ q′ .rows → (w : Window) → passes (blockOf 0 q w) ≡ passes (blockOf 0 q′ w)
 unfolding passes blockOf entry
 block-alike q q′ same w =
-    rw (block-rows q w, block-rows q′ w, block-cols q w, block-cols q′ w)
+    rw (block-rows 0 q w, block-rows 0 q′ w, block-cols 0 q w, block-cols 0 q′ w)
     (ap (λ (rows : List (List ℕ)). isMonge (λ i k. at rows (getD (rowsOf w) i 0) (getD (columnsOf w) k 0)) (w .rows) (w .cols)) same)
 
 pub blocks-same : (q q′ : Piece) → sizeOf q ≡ sizeOf q′ → q .rows ≡ q′ .rows → judgeBlocks q ≡ judgeBlocks q′
 unfolding judgeBlocks blocksOf
 blocks-same q q′ size same =
-    rw (every-of-map passes (blockOf q) (windowsOf (sizeOf q)), every-of-map passes (blockOf q′) (windowsOf (sizeOf q′)), size)
+    rw (every-of-map passes (blockOf 0 q) (windowsOf (sizeOf q)), every-of-map passes (blockOf 0 q′) (windowsOf (sizeOf q′)), size)
     (simp (block-alike q q′ same))
 
 -- what the judgement of a table says of a piece that has it

@@ -1,4 +1,4 @@
-// The judgements of document 01 on a piece and on a network, each of which answers 0 or the number of the cause.
+// The judgements of documents 01 and 02 on a piece, a network and a question, each of which answers 0 or the number of the cause.
 ghost use mathlib.Core.Path.{_≡_};
 ghost use mathlib.Core.List.{[], _∷_};
 ghost use Prim.Native.Nat.{_≤_};
@@ -6,7 +6,7 @@ ghost use lib.ListN.{length};
 ghost use Rattle.definitions.specs.Limits.{maxPieces, maxSize, sizePlaces, vertexPlaces, lengthPlaces, tablePlaces};
 ghost use Rattle.definitions.specs.Lists.{every, mem, within};
 ghost use Rattle.definitions.specs.Blocks.{allSplits, windows, windowsOf};
-ghost use Rattle.definitions.specs.Judgement.{judgeBounds, judgeSize, judgeVertices, judgeRow, judgeRows, judgeFrom, judgeSource};
+ghost use Rattle.definitions.specs.Judgement.{judgeBounds, judgeSize, judgeVertices, judgeRow, judgeRows, judgeFrom, judgeSource, judgeTarget};
 ghost use Rattle.definitions.specs.Entries.{judgeBuffers, judgeLent};
 ghost use Rattle.splits.specs.Table.{flattened, splitOf};
 ghost use Rattle.splits.specs.Sizes.{Cut};
@@ -54,6 +54,16 @@ pub fn judge_source(n: u32, source: u32) -> u32
         return Cause::NONE;
     }
     Cause::SOURCE
+}
+
+// The target, else 12.
+pub fn judge_target(n: u32, target: u32) -> u32
+    ensures { λ r. ⌜ r ≡ judgeTarget n target ⌝ }
+{
+    if is_within(n, target) {
+        return Cause::NONE;
+    }
+    Cause::TARGET
 }
 
 // ---- the lines of a piece

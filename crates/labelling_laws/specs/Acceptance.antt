@@ -31,7 +31,7 @@ pub record Suits (n : ℕ) (q : Piece) : Type 0 where
   pub vertices-in : Every (λ v. (1 ≤ v) × (v ≤ n)) (q .vertices)
   pub vertices-differ : Different (q .vertices)
   pub short : (i j : ℕ) → entry q i j ≤ maxLength
-  pub monge : Every (λ b. passes b ≡ true) (blocksOf q)
+  pub monge : Every (λ b. passes b ≡ true) (blocksOf 0 q)
 
 pub size-passes : (n m : ℕ) (q : Piece) → judgePiece n m q ≡ 0 → m ≤ maxSize
 unfolding judgePiece judgeSize
@@ -47,7 +47,7 @@ piece-suits n q h =
       vertices-in = vertices-in n (q .vertices) (p .1 .0);
       vertices-differ = different-is (q .vertices) (and-right (every (within n) (q .vertices)) (different (q .vertices)) v);
       short = λ i j. at-place (λ l. l ≤ maxLength) 0 (getD (q .rows) i []) (omega arith) (at-place Short [] (q .rows) tt (rows-short 0 (q .rows) (p .1 .1 .0)) i) j;
-      monge = every-is passes (λ b. passes b ≡ true) (λ b t. t) (blocksOf q) (test-holds _ 6 (p .1 .1 .1 .0));
+      monge = every-is passes (λ b. passes b ≡ true) (λ b t. t) (blocksOf 0 q) (test-holds _ 6 (p .1 .1 .1 .0));
     }
 
 pub suits : (n : ℕ) (pieces : List Piece) → Every (λ q. judgePiece n (sizeOf q) q ≡ 0) pieces → Every (Suits n) pieces

@@ -1,5 +1,6 @@
 -- The blocks of an accepted network fit the labelling, their arcs are the network's, and how many rows and columns they have.
 --   blocks-fit                       every block fits
+--   PieceArc of-piece                an arc of a block is one of the block's piece
 --   walk-to-blocks walk-to-pieces    a walk over the pieces is one over the blocks, and back
 --   all-rows all-cols rows-cols      at most the weight
 use mathlib.Core.Path.{_≡_, refl, sym, _∙_}
@@ -14,7 +15,7 @@ use lib.ListN.{getD, length}
 use Rattle.definitions.specs.Limits.{maxSize}
 use Rattle.definitions.specs.Lists.{mem, total, upFrom, Every}
 use Rattle.definitions.specs.Network.{Piece, sizeOf, noPiece, ArcIn, Arc, Walk}
-use Rattle.definitions.specs.Blocks.{Window, windowsOf, rowsOf, logarithm, Block, blockOf, blocksOf, blocks, noBlock, passes, weight}
+use Rattle.definitions.specs.Blocks.{Window, windowsOf, rowsOf, logarithm, Block, blockOf, blocksOf, blocksFrom, blocks, noBlock, passes, weight}
 use Rattle.basics.specs.ListLaws.{every-at, every-append, Any, any-at, at-any, any-left, any-right, any-cases, any-map, any-back, total-append, Different}
 use Rattle.heap_laws.specs.Neighbours.{isMonge-all}
 use Rattle.splits.specs.Windows.{Inside, windows-inside, pair-once, spanned, Spans, rows-few, cols-few}
@@ -36,31 +37,36 @@ stretch-differs vs d s (suc n) l = (without (suc s) n (omega arith) (omega arith
     without t (suc k) h m = simp (ne-eqb (getD vs s 0) (getD vs t 0) (λ q. let e : s ≡ t = different-at vs d s t (omega arith) (omega arith) q in omega arith)) (without (suc t) k (omega arith) (omega arith))
 
 module _ (n : ℕ) where
-  fit-one : (q : Piece) → Suits n q → (w : Window) → Inside (sizeOf q) w → passes (blockOf q w) ≡ true → Fit n (blockOf q w)
+  fit-one : (d : ℕ) (q : Piece) → Suits n q → (w : Window) → Inside (sizeOf q) w → passes (blockOf d q w) ≡ true → Fit n (blockOf d q w)
   unfolding passes sizeOf
-  fit-one q su w i ok = record {
+  fit-one d q su w i ok = record {
     rows-differ = unfold blockOf rowsOf in stretch-differs (q .vertices) (su .vertices-differ) (w .row0) (w .rows) (i .rows-in);
     cols-in = λ c l.
         let lc : c < w .cols = rw block-cols at l in
-        rw (col-vertex q w c lc) (every-at (λ v. (1 ≤ v) × (v ≤ n)) (q .vertices) (su .vertices-in) (w .col0 + (w .cols - 1 - c)) 0 (omega (arith, i .cols-in)));
-    short = λ r c lr lc. rw (entry-at q w r c (rw block-rows at lr) (rw block-cols at lc)) (su .short (w .row0 + r) (w .col0 + (w .cols - 1 - c)));
+        rw (col-vertex d q w c lc) (every-at (λ v. (1 ≤ v) × (v ≤ n)) (q .vertices) (su .vertices-in) (w .col0 + (w .cols - 1 - c)) 0 (omega (arith, i .cols-in)));
+    short = λ r c lr lc. rw (entry-at d q w r c (rw block-rows at lr) (rw block-cols at lc)) (su .short (w .row0 + r) (w .col0 + (w .cols - 1 - c)));
     monge = isMonge-all _ _ _ ok;
   }
 
-  fit-all : (q : Piece) → Suits n q → (ws : List Window) → Every (Inside (sizeOf q)) ws → Every (λ b. passes b ≡ true) (map (blockOf q) ws) → Every (Fit n) (map (blockOf q) ws)
-  fit-all q su [] i p = tt
-  fit-all q su (w ∷ ws) i p = (fit-one q su w (i .0) (p .0), fit-all q su ws (i .1) (p .1))
+  -- the check does not look at the piece's number
+  fit-all : (d : ℕ) (q : Piece) → Suits n q → (ws : List Window) → Every (Inside (sizeOf q)) ws → Every (λ b. passes b ≡ true) (map (blockOf 0 q) ws) → Every (Fit n) (map (blockOf d q) ws)
+  fit-all d q su [] i p = tt
+  fit-all d q su (w ∷ ws) i p = (fit-one d q su w (i .0) (unfold passes blockOf in p .0), fit-all d q su ws (i .1) (p .1))
+
+  fit-from : (d : ℕ) (qs : List Piece) → Every (Suits n) qs → Every (Fit n) (blocksFrom d qs)
+  unfolding blocksFrom blocksOf
+  fit-from d [] h = tt
+  fit-from d (q ∷ qs) h =
+      every-append (Fit n) (blocksOf d q) (blocksFrom (suc d) qs) (fit-all d q (h .0) (windowsOf (sizeOf q)) (windows-inside (sizeOf q) (h .0 .size-high)) (h .0 .monge)) (fit-from (suc d) qs (h .1))
 
   pub blocks-fit : (qs : List Piece) → Every (Suits n) qs → Every (Fit n) (blocks qs)
-  unfolding blocks blocksOf
-  blocks-fit [] h = tt
-  blocks-fit (q ∷ qs) h =
-      every-append (Fit n) (blocksOf q) (blocks qs) (fit-all q (h .0) (windowsOf (sizeOf q)) (windows-inside (sizeOf q) (h .0 .size-high)) (h .0 .monge)) (blocks-fit qs (h .1))
+  unfolding blocks
+  blocks-fit qs h = fit-from 1 qs h
 
 -- ---- the arcs are the same
 
-arc-to-block : (q : Piece) (u v l : ℕ) → (a : ArcIn q u v l) → (w : Window) → Spans (a .here) (a .there) w → ArcOf (blockOf q w) u v l
-arc-to-block q u v l a w s =
+arc-to-block : (d : ℕ) (q : Piece) (u v l : ℕ) → (a : ArcIn q u v l) → (w : Window) → Spans (a .here) (a .there) w → ArcOf (blockOf d q w) u v l
+arc-to-block d q u v l a w s =
     let i : ℕ = a .here - w .row0 in
     let k : ℕ = w .cols - suc (a .there - w .col0) in
     let at-row : w .row0 + (a .here - w .row0) ≡ a .here = omega (arith, s .row-from) in
@@ -72,13 +78,13 @@ arc-to-block q u v l a w s =
       col = k;
       row-in = rw block-rows row-in;
       col-in = rw block-cols col-in;
-      tail = row-vertex q w i row-in ∙ rw at-row (a .tail);
-      head = col-vertex q w k col-in ∙ rw at-col (a .head);
-      length-is = entry-at q w i k row-in col-in ∙ rw (at-row, at-col) (a .length-is);
+      tail = row-vertex d q w i row-in ∙ rw at-row (a .tail);
+      head = col-vertex d q w k col-in ∙ rw at-col (a .head);
+      length-is = entry-at d q w i k row-in col-in ∙ rw (at-row, at-col) (a .length-is);
     }
 
-arc-to-piece : (q : Piece) (u v l : ℕ) (w : Window) → Inside (sizeOf q) w → ArcOf (blockOf q w) u v l → ArcIn q u v l
-arc-to-piece q u v l w i a =
+arc-to-piece : (d : ℕ) (q : Piece) (u v l : ℕ) (w : Window) → Inside (sizeOf q) w → ArcOf (blockOf d q w) u v l → ArcIn q u v l
+arc-to-piece d q u v l w i a =
     let row-in : a .row < w .rows = rw block-rows at (a .row-in) in
     let col-in : a .col < w .cols = rw block-cols at (a .col-in) in
     record {
@@ -87,38 +93,62 @@ arc-to-piece q u v l w i a =
       here-in = omega (arith, i .rows-in);
       there-in = omega (arith, i .cols-in);
       differ = ⊎-elim (λ (p : w .row0 + w .rows ≤ w .col0). λ q. omega arith) (λ (p : w .col0 + w .cols ≤ w .row0). λ q. omega arith) (i .apart);
-      tail = sym (row-vertex q w (a .row) row-in) ∙ a .tail;
-      head = sym (col-vertex q w (a .col) col-in) ∙ a .head;
-      length-is = sym (entry-at q w (a .row) (a .col) row-in col-in) ∙ a .length-is;
+      tail = sym (row-vertex d q w (a .row) row-in) ∙ a .tail;
+      head = sym (col-vertex d q w (a .col) col-in) ∙ a .head;
+      length-is = sym (entry-at d q w (a .row) (a .col) row-in col-in) ∙ a .length-is;
     }
 
-module _ (n u v l : ℕ) where
-  in-blocks : (qs : List Piece) → Every (Suits n) qs → Any (λ q. ArcIn q u v l) qs → Any (λ b. ArcOf b u v l) (blocks qs)
-  unfolding blocks blocksOf
-  in-blocks [] h x = absurd x
-  in-blocks (q ∷ qs) h (inl a) = any-left (λ b. ArcOf b u v l) (blocksOf q) (blocks qs)
-      (any-map (Spans (a .here) (a .there)) (λ b. ArcOf b u v l) (blockOf q) (windowsOf (sizeOf q)) (arc-to-block q u v l a)
-      (spanned (a .here) (a .there) (windowsOf (sizeOf q)) (omega (arith, pair-once (sizeOf q) (a .here) (a .there) (h .0 .size-high) (a .here-in) (a .there-in) (a .differ)))))
-  in-blocks (q ∷ qs) h (inr x) = any-right (λ b. ArcOf b u v l) (blocksOf q) (blocks qs) (in-blocks qs (h .1) x)
+-- an arc of the piece of number k, where the first piece has the number d
+pub record PieceArc (d : ℕ) (qs : List Piece) (k u v l : ℕ) : Type 0 where
+  pub low : d ≤ k
+  pub high : k < d + length qs
+  pub arc : ArcIn (getD qs (k - d) noPiece) u v l
 
-  in-pieces : (qs : List Piece) → Every (Suits n) qs → Any (λ b. ArcOf b u v l) (blocks qs) → Any (λ q. ArcIn q u v l) qs
-  unfolding blocks blocksOf
-  in-pieces [] h x = absurd x
-  in-pieces (q ∷ qs) h x = ⊎-elim
-      (λ (y : Any (λ b. ArcOf b u v l) (blocksOf q)). inl
-      (any-back (Inside (sizeOf q)) (λ b. ArcOf b u v l) (ArcIn q u v l) (blockOf q) (windowsOf (sizeOf q)) (arc-to-piece q u v l) (windows-inside (sizeOf q) (h .0 .size-high)) y))
-      (λ (y : Any (λ b. ArcOf b u v l) (blocks qs)). inr (in-pieces qs (h .1) y))
-      (any-cases (λ b. ArcOf b u v l) (blocksOf q) (blocks qs) x)
+module _ (n u v l : ℕ) where
+  in-blocks : (d : ℕ) (qs : List Piece) → Every (Suits n) qs → Any (λ q. ArcIn q u v l) qs → Any (λ b. ArcOf b u v l) (blocksFrom d qs)
+  unfolding blocksFrom blocksOf
+  in-blocks d [] h x = absurd x
+  in-blocks d (q ∷ qs) h (inl a) = any-left (λ b. ArcOf b u v l) (blocksOf d q) (blocksFrom (suc d) qs)
+      (any-map (Spans (a .here) (a .there)) (λ b. ArcOf b u v l) (blockOf d q) (windowsOf (sizeOf q)) (arc-to-block d q u v l a)
+      (spanned (a .here) (a .there) (windowsOf (sizeOf q)) (omega (arith, pair-once (sizeOf q) (a .here) (a .there) (h .0 .size-high) (a .here-in) (a .there-in) (a .differ)))))
+  in-blocks d (q ∷ qs) h (inr x) = any-right (λ b. ArcOf b u v l) (blocksOf d q) (blocksFrom (suc d) qs) (in-blocks (suc d) qs (h .1) x)
+
+  -- an arc of a block of piece k
+  module _ (k : ℕ) where
+    abbrev OfPiece : Block → Type 0
+    OfPiece b = (b .piece ≡ k) × ArcOf b u v l
+
+    in-pieces : (d : ℕ) (qs : List Piece) → Every (Suits n) qs → Any OfPiece (blocksFrom d qs) → PieceArc d qs k u v l
+    unfolding blocksFrom blocksOf blockOf
+    in-pieces d [] h x = absurd x
+    in-pieces d (q ∷ qs) h x = ⊎-elim
+        (λ (y : Any OfPiece (blocksOf d q)). any-back (Inside (sizeOf q)) OfPiece (PieceArc d (q ∷ qs) k u v l) (blockOf d q) (windowsOf (sizeOf q)) here (windows-inside (sizeOf q) (h .0 .size-high)) y)
+        (λ (y : Any OfPiece (blocksFrom (suc d) qs)). there (in-pieces (suc d) qs (h .1) y))
+        (any-cases OfPiece (blocksOf d q) (blocksFrom (suc d) qs) x)
+      where
+        here : (w : Window) → Inside (sizeOf q) w → OfPiece (blockOf d q w) → PieceArc d (q ∷ qs) k u v l
+        here w i a =
+            let z : k - d ≡ 0 = omega (arith, a .0) in
+            record { low = omega (arith, a .0); high = omega (arith, a .0); arc = rw z (arc-to-piece d q u v l w i (a .1)) }
+
+        there : PieceArc (suc d) qs k u v l → PieceArc d (q ∷ qs) k u v l
+        there a =
+            let z : k - d ≡ suc (k - suc d) = omega (arith, a .low) in
+            record { low = omega (arith, a .low); high = omega (arith, a .high); arc = rw z (a .arc) }
 
   to-blocks : (qs : List Piece) → Every (Suits n) qs → Arc qs u v l → BlockArc (blocks qs) u v l
+  unfolding blocks
   to-blocks qs h a =
-      let s = at-any (λ b. ArcOf b u v l) (blocks qs) noBlock (in-blocks qs h (any-at (λ q. ArcIn q u v l) qs (a .number) noPiece (a .number-in) (a .arc))) in
+      let s = at-any (λ b. ArcOf b u v l) (blocks qs) noBlock (in-blocks 1 qs h (any-at (λ q. ArcIn q u v l) qs (a .number) noPiece (a .number-in) (a .arc))) in
       record { number = s .number; number-in = s .number-in; arc = s .here }
 
+  -- an arc of a block is one of the block's piece
+  pub of-piece : (qs : List Piece) → Every (Suits n) qs → (a : BlockArc (blocks qs) u v l) → PieceArc 1 qs (getD (blocks qs) (a .number) noBlock .piece) u v l
+  unfolding blocks
+  of-piece qs h a = let b : Block = getD (blocks qs) (a .number) noBlock in in-pieces (b .piece) 1 qs h (any-at (OfPiece (b .piece)) (blocks qs) (a .number) noBlock (a .number-in) (refl, a .arc))
+
   to-pieces : (qs : List Piece) → Every (Suits n) qs → BlockArc (blocks qs) u v l → Arc qs u v l
-  to-pieces qs h a =
-      let s = at-any (λ q. ArcIn q u v l) qs noPiece (in-pieces qs h (any-at (λ b. ArcOf b u v l) (blocks qs) (a .number) noBlock (a .number-in) (a .arc))) in
-      record { number = s .number; number-in = s .number-in; arc = s .here }
+  to-pieces qs h a = let s = of-piece qs h a in record { number = getD (blocks qs) (a .number) noBlock .piece - 1; number-in = omega (arith, s .low, s .high); arc = s .arc }
 
 pub walk-to-blocks : (n : ℕ) (qs : List Piece) → Every (Suits n) qs → {s v l : ℕ} → Walk (Arc qs) s v l → Walk (BlockArc (blocks qs)) s v l
 walk-to-blocks n qs h p = walk-map (λ u v l a. to-blocks n u v l qs h a) p
@@ -129,17 +159,21 @@ walk-to-pieces n qs h p = walk-map (λ u v l a. to-pieces n u v l qs h a) p
 -- ---- how many rows and columns
 
 -- f counts the rows, or the columns, of a block, and g those of its window
-module _ (f : Block → ℕ) (g : Window → ℕ) (same : (q : Piece) (w : Window) → f (blockOf q w) ≡ g w) (few : (m : ℕ) → m ≤ maxSize → total (map g (windowsOf m)) ≤ m * logarithm m) where
-  of-piece : (q : Piece) (ws : List Window) → total (map f (map (blockOf q) ws)) ≡ total (map g ws)
+module _ (f : Block → ℕ) (g : Window → ℕ) (same : (d : ℕ) (q : Piece) (w : Window) → f (blockOf d q w) ≡ g w) (few : (m : ℕ) → m ≤ maxSize → total (map g (windowsOf m)) ≤ m * logarithm m) where
+  of-windows : (d : ℕ) (q : Piece) (ws : List Window) → total (map f (map (blockOf d q) ws)) ≡ total (map g ws)
   unfolding total
-  of-piece q [] = refl
-  of-piece q (w ∷ ws) = omega (arith, of-piece q ws, same q w)
+  of-windows d q [] = refl
+  of-windows d q (w ∷ ws) = omega (arith, of-windows d q ws, same d q w)
+
+  of-from : (n d : ℕ) (qs : List Piece) → Every (Suits n) qs → total (map f (blocksFrom d qs)) ≤ weight qs
+  unfolding blocksFrom blocksOf weight total
+  of-from n d [] h = le-refl 0
+  of-from n d (q ∷ qs) h =
+      omega (arith, total-append f (blocksOf d q) (blocksFrom (suc d) qs), of-windows d q (windowsOf (sizeOf q)), few (sizeOf q) (h .0 .size-high), of-from n (suc d) qs (h .1))
 
   of-all : (n : ℕ) (qs : List Piece) → Every (Suits n) qs → total (map f (blocks qs)) ≤ weight qs
-  unfolding blocks blocksOf weight total
-  of-all n [] h = le-refl 0
-  of-all n (q ∷ qs) h =
-      omega (arith, total-append f (blocksOf q) (blocks qs), of-piece q (windowsOf (sizeOf q)), few (sizeOf q) (h .0 .size-high), of-all n qs (h .1))
+  unfolding blocks
+  of-all n qs h = of-from n 1 qs h
 
 pub all-rows : (n : ℕ) (qs : List Piece) → Every (Suits n) qs → total (map (λ b. length (b .rows)) (blocks qs)) ≤ weight qs
 all-rows = of-all (λ b. length (b .rows)) (λ w. w .rows) block-rows rows-few

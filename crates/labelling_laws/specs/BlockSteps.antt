@@ -1,7 +1,7 @@
 -- All blocks: what holds after any number of steps of the labelling of a list of blocks.
 --   blockAt columnVertex block-at     a block of a state, the vertex of its column
 --   Labelled Inv settled-few          invariants (c) and (e) of the settled vertices, with those of each block
---   Choice choice between             what the chosen block says; the blocks between its extraction and the activations
+--   Choice choice between             what the chosen block says, and the arc into its column; the blocks between its extraction and the activations
 --   Setting Holds steps-hold          the invariant holds after every step
 -- `level` is the last sum handed out, at first 0.
 use mathlib.Core.Path.{_≡_, refl, _∙_}
@@ -17,19 +17,19 @@ use lib.ListN.{getD, length, set, length-append, length-map, List·getD-map}
 use lib.Seq.{map-set-same}
 use Rattle.definitions.specs.Limits.{maxVertices, maxLength, maxLabel, sum}
 use Rattle.definitions.specs.Lists.{mem, Every}
-use Rattle.definitions.specs.Network.{Rectangle, Walk, stay, then}
+use Rattle.definitions.specs.Network.{Rectangle, Walk, stay, then, RouteArc}
 use Rattle.definitions.specs.Blocks.{Block, noBlock}
 use Rattle.definitions.specs.Best.{Best, nobody, by, least, leastFrom, Lowest}
 use Rattle.definitions.specs.Laws.LeastLaws.{Found, found-is}
 use Rattle.definitions.specs.Model.{Model, parent, available}
-use Rattle.definitions.specs.Labelling.{BlockState, extraction, freshBlock, apply, leastOf, activateVertex, Settled, settledAt, State, labelOf, settleAs, settle, noBlockState, chosen, placeIn, extractFrom, advance, steps, start}
+use Rattle.definitions.specs.Labelling.{BlockState, extraction, freshBlock, apply, leastOf, activateVertex, Settled, settledAt, State, labelOf, settleAs, settle, noBlockState, chosen, placeIn, arcAt, arcInto, extractFrom, advance, steps, start}
 use Rattle.definitions.specs.Laws.Members.{every-imp}
 use Rattle.basics.specs.ListLaws.{every-at, every-set, every-snoc, every-map, every-all, map-same, map-back, Different, different-snoc, at-most}
 use Rattle.heap_laws.specs.Lesser.{From, from-each}
 use Rattle.heap_laws.specs.Parents.{available-parent, parent-row, parent-activated, parent-sum, rowLabel}
-use Rattle.labelling_laws.specs.Labels.{label-old, label-new, Status, settled, unsettled, status, labelled, unlabelled}
+use Rattle.labelling_laws.specs.Labels.{label-old, label-new, Status, settled, unsettled, status, labelled, unlabelled, own-labels}
 use Rattle.labelling_laws.specs.Activated.{row-settled}
-use Rattle.labelling_laws.specs.Walks.{BlockArc}
+use Rattle.labelling_laws.specs.Walks.{BlockArc, Arrives}
 use Rattle.labelling_laws.specs.OneBlock.{Fit, fresh-fine, later, Good, activate-good, extract-good, activate-block}
 
 -- block i of a state, from 0, and the vertex of its column c
@@ -97,26 +97,26 @@ module _ (bs : List Block) (n source : ℕ) where
 
   module _ (small : n ≤ maxVertices) where
     -- a vertex that is not yet settled is settled, and activated
-    settle-inv : (st : State) (v l : ℕ) → labelOf v (st .settled) ≡ none
+    settle-inv : (st : State) (v l : ℕ) (a : Option RouteArc) → labelOf v (st .settled) ≡ none
         → map (λ s. s .block) (st .blocks) ≡ bs
-        → Every (Good n (st .settled) (st .settled ++ settledAt v l ∷ []) l) (st .blocks)
+        → Every (Good n (st .settled) (st .settled ++ settledAt v l a ∷ []) l) (st .blocks)
         → Every (λ x. Labelled l (length (st .settled)) (x .vertex) (x .label)) (st .settled)
         → Different (map (λ x. x .vertex) (st .settled))
         → Labelled l (suc (length (st .settled))) v l
-        → Inv (settleAs none v l st) l
+        → Inv (settleAs none v l a st) l
     unfolding settleAs
-    settle-inv st v l no-label same good ls diff one =
+    settle-inv st v l a no-label same good ls diff one =
         let old : List Settled = st .settled in
-        let now : List Settled = old ++ settledAt v l ∷ [] in
+        let now : List Settled = old ++ settledAt v l a ∷ [] in
         let count : length now ≡ suc (length old) = simp length-append (omega arith) in
         let all : Every (λ x. Labelled l (length now) (x .vertex) (x .label)) now = rw count (every-snoc (λ x. Labelled l (suc (length old)) (x .vertex) (x .label)) old _
         (every-imp _ _ old (λ x h. grow l l (length old) (suc (length old)) (le-refl l) (omega arith) (x .vertex) (x .label) h) ls) one) in
-        let vertices : Different (map (λ x. x .vertex) now) = rw (map-snoc old (settledAt v l))
+        let vertices : Different (map (λ x. x .vertex) now) = rw (map-snoc old (settledAt v l a))
         (different-snoc (map (λ x. x .vertex) old) v diff (unlabelled v old no-label)) in
         let top : l ≤ maxLabel = omega (arith, one .short, settled-few l (length now) now vertices all) in
         record {
           blocks-are = map-same (activateVertex v l) (λ s. s .block) (st .blocks) (activate-block v l) ∙ same;
-          good = every-map (Good n old now l) (Good n now now l) (activateVertex v l) (st .blocks) (activate-good n old now l v no-label top) good;
+          good = every-map (Good n old now l) (Good n now now l) (activateVertex v l) (st .blocks) (activate-good n old now l v a no-label top) good;
           labels = all;
           different = vertices;
         }
@@ -129,9 +129,10 @@ module _ (bs : List Block) (n source : ℕ) where
       pub rises : level ≤ s
       pub beyond : (j : ℕ) → j < length (st .blocks) → From s (leastOf (blockAt st j))
       pub found : Labelled s (suc (length (st .settled))) (columnVertex (blockAt st i) col) s
+      pub arrives : Arrives bs (st .settled) (columnVertex (blockAt st i) col) s (arcInto (blockAt st i) col)
 
     pub choice : (st : State) (level i s : ℕ) → Inv st level → chosen st ≡ by i s → Choice st level i s
-    unfolding chosen leastOf
+    unfolding chosen leastOf arcAt arcInto placeIn
     choice st level i s inv q =
         let top : Lowest (λ j. leastOf (blockAt st j)) 0 (length (st .blocks)) i s = rw q at (found-is (λ j. leastOf (blockAt st j)) 0 (length (st .blocks))) in
         let here : BlockState = blockAt st i in
@@ -144,9 +145,11 @@ module _ (bs : List Block) (n source : ℕ) where
         let p : ℕ = low .holder in
         let own : parent e (m .activated) c ≡ by p s = available-parent e m c p s (low .here) in
         let row-in : p < length (here .block .rows) = parent-row e (length (here .block .rows)) (m .activated) c p s (good .fine .sound .in-rows) own in
-        let from : Labelled level (length (st .settled)) (getD (here .block .rows) p 0) (rowLabel p (m .activated))
-        = rw (good .fine .rows-are) (row-settled (Labelled level (length (st .settled))) (here .block .rows) p (st .settled) (inv .labels)
+        let from-is : labelOf (getD (here .block .rows) p 0) (st .settled) ≡ some (rowLabel p (m .activated))
+        = rw (good .fine .rows-are) (row-settled (λ v l. labelOf v (st .settled) ≡ some l) (here .block .rows) p (st .settled) (own-labels (st .settled) (inv .different))
         (rw (← good .fine .rows-are) (parent-activated e (m .activated) c p s own))) in
+        let from : Labelled level (length (st .settled)) (getD (here .block .rows) p 0) (rowLabel p (m .activated))
+        = labelled (getD (here .block .rows) p 0) (Labelled level (length (st .settled))) (rowLabel p (m .activated)) (st .settled) (inv .labels) from-is in
         let is : s ≡ sum (rowLabel p (m .activated)) (e p c) = parent-sum e (m .activated) c p s (good .fine .sound .once) own in
         let arc : BlockArc bs (getD (here .block .rows) p 0) (columnVertex here c) (e p c) = record {
           number = i;
@@ -166,6 +169,13 @@ module _ (bs : List Block) (n source : ℕ) where
             walk = rw is (then (from .walk) arc);
             short = omega (arith, from .short, is, good .fit .short p c row-in col-in);
           };
+          arrives = rw (low .here) (record {
+            before = rowLabel p (m .activated);
+            from-is = from-is;
+            to-is = refl;
+            sum-is = is;
+            is-arc = record { arc = arc; piece-is = rw (block-at st i (inv .blocks-are)) };
+          });
         }
 
     -- all sums have reached s, and more may be settled
@@ -190,18 +200,18 @@ module _ (bs : List Block) (n source : ℕ) where
     same-blocks st i = map-set-same (λ (s : BlockState). s .block) (st .blocks) i (apply (blockAt st i) extraction) noBlockState refl
 
     -- after the extraction and before the activations of a step
-    pub between : (st : State) (level i s : ℕ) → Inv st level → (ch : Choice st level i s) → (v : ℕ) → columnVertex (blockAt st i) (ch .col) ≡ v → labelOf v (st .settled) ≡ none
-        → Every (Good n (st .settled) (st .settled ++ settledAt v s ∷ []) s) (set (st .blocks) i (apply (blockAt st i) extraction))
-    between st level i s inv ch v z h =
-        let now : List Settled = st .settled ++ settledAt v s ∷ [] in
+    pub between : (st : State) (level i s : ℕ) → Inv st level → (ch : Choice st level i s) → (v : ℕ) (a : Option RouteArc) → columnVertex (blockAt st i) (ch .col) ≡ v → labelOf v (st .settled) ≡ none
+        → Every (Good n (st .settled) (st .settled ++ settledAt v s a ∷ []) s) (set (st .blocks) i (apply (blockAt st i) extraction))
+    between st level i s inv ch v a z h =
+        let now : List Settled = st .settled ++ settledAt v s a ∷ [] in
         let all : Every (Good n (st .settled) now s) (st .blocks) = raised st level i s now inv ch (λ v l h. label-old v (st .settled) _ l h) in
-        every-set _ (st .blocks) i _ all (extract-good n (st .settled) now s (blockAt st i) (ch .col) (ch .here) s (rw z (label-new v (settledAt v s) (st .settled) refl h)) (le-refl s)
+        every-set _ (st .blocks) i _ all (extract-good n (st .settled) now s (blockAt st i) (ch .col) (ch .here) s (rw z (label-new v (settledAt v s a) (st .settled) refl h)) (le-refl s)
         (every-at _ (st .blocks) all i noBlockState (ch .number-in)))
 
-    reach-inv : (st : State) (level i s : ℕ) → Inv st level → (ch : Choice st level i s) → (v : ℕ) → columnVertex (blockAt st i) (ch .col) ≡ v → Status v (st .settled)
-        → Inv (settleAs (labelOf v (st .settled)) v s (after st i)) s
+    reach-inv : (st : State) (level i s : ℕ) → Inv st level → (ch : Choice st level i s) → (v : ℕ) (a : Option RouteArc) → columnVertex (blockAt st i) (ch .col) ≡ v → Status v (st .settled)
+        → Inv (settleAs (labelOf v (st .settled)) v s a (after st i)) s
     unfolding settleAs after
-    reach-inv st level i s inv ch v z (settled l h) =
+    reach-inv st level i s inv ch v a z (settled l h) =
         let old : Labelled level (length (st .settled)) v l = labelled v (Labelled level (length (st .settled))) l (st .settled) (inv .labels) h in
         let all : Every (Good n (st .settled) (st .settled) s) (st .blocks) = raised st level i s (st .settled) inv ch (λ v l h. h) in
         rw h (record {
@@ -211,8 +221,8 @@ module _ (bs : List Block) (n source : ℕ) where
           labels = every-imp _ _ (st .settled) (λ x f. grow level s (length (st .settled)) (length (st .settled)) (ch .rises) (le-refl _) (x .vertex) (x .label) f) (inv .labels);
           different = inv .different;
         })
-    reach-inv st level i s inv ch v z (unsettled h) =
-        rw h (settle-inv (after st i) v s h (same-blocks st i ∙ inv .blocks-are) (between st level i s inv ch v z h)
+    reach-inv st level i s inv ch v a z (unsettled h) =
+        rw h (settle-inv (after st i) v s a h (same-blocks st i ∙ inv .blocks-are) (between st level i s inv ch v a z h)
         (every-imp _ _ (st .settled) (λ x f. grow level s (length (st .settled)) (length (st .settled)) (ch .rises) (le-refl _) (x .vertex) (x .label) f) (inv .labels))
         (inv .different) (rw z at (ch .found)))
 
@@ -220,39 +230,39 @@ module _ (bs : List Block) (n source : ℕ) where
     unfolding extractFrom settle placeIn after
     extract-inv st level i s inv q =
         let ch : Choice st level i s = choice st level i s inv q in
-        rw (ch .here) (reach-inv st level i s inv ch _ refl (status _ (st .settled)))
+        rw (ch .here) (reach-inv st level i s inv ch _ _ refl (status _ (st .settled)))
 
     -- ---- from the start on
 
     start-inv : Every (Fit n) bs → 1 ≤ source → source ≤ n → Inv (start bs source) 0
     unfolding start settle labelOf freshBlock available parent least mem
-    start-inv fits low high = settle-inv (record { blocks = map freshBlock bs; settled = [] }) source 0 refl
+    start-inv fits low high = settle-inv (record { blocks = map freshBlock bs; settled = [] }) source 0 none refl
         (map-back freshBlock (λ s. s .block) bs (λ b. refl))
-        (every-map (Fit n) (Good n [] (settledAt source 0 ∷ []) 0) freshBlock bs one fits)
+        (every-map (Fit n) (Good n [] (settledAt source 0 none ∷ []) 0) freshBlock bs one fits)
         tt tt
         (record { low = low; high = high; near = le-refl 0; walk = stay; short = omega arith })
       where
-        one : (b : Block) → Fit n b → Good n [] (settledAt source 0 ∷ []) 0 (freshBlock b)
+        one : (b : Block) → Fit n b → Good n [] (settledAt source 0 none ∷ []) 0 (freshBlock b)
         one b f = record {
           fit = f;
-          fine = later b [] [] (settledAt source 0 ∷ []) 0 0 ((freshBlock b) .trace) (le-refl 0)
+          fine = later b [] [] (settledAt source 0 none ∷ []) 0 0 ((freshBlock b) .trace) (le-refl 0)
               (λ v l h. let z : _≡_ {A = ℕ} 0 1 = cc in absurd (omega arith)) (λ c l. tt) (fresh-fine b);
         }
 
   -- ---- a label stays
 
-  keeps : (v l u w : ℕ) (st : State) → labelOf v (st .settled) ≡ some l → labelOf v ((settle u w st) .settled) ≡ some l
+  keeps : (v l u w : ℕ) (a : Option RouteArc) (st : State) → labelOf v (st .settled) ≡ some l → labelOf v ((settle u w a st) .settled) ≡ some l
   unfolding settle settleAs
-  keeps v l u w st q = go (labelOf u (st .settled))
+  keeps v l u w a st q = go (labelOf u (st .settled))
     where
-      go : (x : Option ℕ) → labelOf v ((settleAs x u w st) .settled) ≡ some l
+      go : (x : Option ℕ) → labelOf v ((settleAs x u w a st) .settled) ≡ some l
       go none = label-old v (st .settled) _ l q
       go (some l′) = q
 
   keeps-extract : (v l : ℕ) (x : Best) (st : State) → labelOf v (st .settled) ≡ some l → labelOf v ((extractFrom x st) .settled) ≡ some l
   unfolding extractFrom
   keeps-extract v l nobody st q = q
-  keeps-extract v l (by i s) st q = keeps v l _ s _ q
+  keeps-extract v l (by i s) st q = keeps v l _ s _ _ q
 
   begun : (m : ℕ) → labelOf source ((steps m (start bs source)) .settled) ≡ some 0
   unfolding steps advance start

@@ -6,6 +6,7 @@ use mathlib.Core.Option.{Option, none, some}
 use Prim.Native.Nat.{ℕ, zero, suc}
 use lib.ListN.{getD, length}
 use Rattle.definitions.specs.Lists.{Every}
+use Rattle.definitions.specs.Network.{RouteArc}
 use Rattle.definitions.specs.Blocks.{Block}
 use Rattle.definitions.specs.Best.{Best, nobody, by}
 use Rattle.definitions.specs.Model.{Call, Trace, extend, traceFrom, trace}
@@ -38,11 +39,11 @@ activate-made v l s r = go (placeOf v 0 (s .block .rows))
     go none = r
     go (some i) = apply-made s (activation i l) r
 
-settle-made : (v l : ℕ) (st : State) → Every Made (st .blocks) → Every Made ((settle v l st) .blocks)
+settle-made : (v l : ℕ) (a : Option RouteArc) (st : State) → Every Made (st .blocks) → Every Made ((settle v l a st) .blocks)
 unfolding settle settleAs
-settle-made v l st h = go (labelOf v (st .settled))
+settle-made v l a st h = go (labelOf v (st .settled))
   where
-    go : (x : Option ℕ) → Every Made ((settleAs x v l st) .blocks)
+    go : (x : Option ℕ) → Every Made ((settleAs x v l a st) .blocks)
     go none = every-map Made Made (activateVertex v l) (st .blocks) (activate-made v l) h
     go (some i) = h
 
@@ -53,7 +54,7 @@ none-made = record { calls = []; trace-is = refl }
 extract-made : (x : Best) (st : State) → Every Made (st .blocks) → Every Made ((extractFrom x st) .blocks)
 unfolding extractFrom
 extract-made nobody st h = h
-extract-made (by i s) st h = settle-made _ s _ (every-set Made (st .blocks) i _ h (apply-made (getD (st .blocks) i noBlockState) extraction (at-place Made noBlockState (st .blocks) none-made h i)))
+extract-made (by i s) st h = settle-made _ s _ _ (every-set Made (st .blocks) i _ h (apply-made (getD (st .blocks) i noBlockState) extraction (at-place Made noBlockState (st .blocks) none-made h i)))
 
 all-fresh : (bs : List Block) → Every Made (map freshBlock bs)
 all-fresh [] = tt
@@ -61,5 +62,5 @@ all-fresh (b ∷ bs) = (fresh-made b, all-fresh bs)
 
 pub made : (bs : List Block) (source m : ℕ) → Every Made ((steps m (start bs source)) .blocks)
 unfolding steps advance start
-made bs source zero = settle-made source 0 (record { blocks = map freshBlock bs; settled = [] }) (all-fresh bs)
+made bs source zero = settle-made source 0 none (record { blocks = map freshBlock bs; settled = [] }) (all-fresh bs)
 made bs source (suc m) = extract-made (chosen (steps m (start bs source))) (steps m (start bs source)) (made bs source m)

@@ -14,6 +14,7 @@ use native.Mathlib.Omega.{arith}
 use lib.ListN.{length, set}
 use Rattle.definitions.specs.Limits.{maxLabel}
 use Rattle.definitions.specs.Lists.{total, Every}
+use Rattle.definitions.specs.Network.{RouteArc}
 use Rattle.definitions.specs.Blocks.{Block}
 use Rattle.definitions.specs.Best.{Best, nobody, by, Lowest}
 use Rattle.definitions.specs.Laws.LeastLaws.{found-is}
@@ -26,11 +27,11 @@ use Rattle.labelling_laws.specs.BlockSteps.{blockAt, columnVertex, Label
 
 -- ---- each step extracts one column
 
-settle-extracts : (v l : ℕ) (st : State) → extractions (settle v l st) ≡ extractions st
+settle-extracts : (v l : ℕ) (a : Option RouteArc) (st : State) → extractions (settle v l a st) ≡ extractions st
 unfolding settle settleAs extractions
-settle-extracts v l st = go (labelOf v (st .settled))
+settle-extracts v l a st = go (labelOf v (st .settled))
   where
-    go : (x : Option ℕ) → extractions (settleAs x v l st) ≡ extractions st
+    go : (x : Option ℕ) → extractions (settleAs x v l a st) ≡ extractions st
     go none = ap total (map-same (activateVertex v l) (λ s. length (s .trace .model .extracted)) (st .blocks) (activate-extracted v l))
     go (some l′) = refl
 
@@ -38,7 +39,7 @@ pub step-extracts : (i s : ℕ) (st : State) → chosen st ≡ by i s → extrac
 unfolding extractFrom chosen extractions
 step-extracts i s st q =
     let top : Lowest (λ j. leastOf (blockAt st j)) 0 (length (st .blocks)) i s = rw q at (found-is (λ j. leastOf (blockAt st j)) 0 (length (st .blocks))) in
-    settle-extracts _ s _
+    settle-extracts _ s _ _
     ∙ omega (
       arith,
       total-set (λ (b : BlockState). length (b .trace .model .extracted)) (st .blocks) i (apply (blockAt st i) extraction) noBlockState (omega (arith, top .high)),
@@ -47,11 +48,11 @@ step-extracts i s st q =
 
 pub start-extracts : (bs : List Block) (source : ℕ) → extractions (start bs source) ≡ 0
 unfolding start extractions total freshBlock
-start-extracts bs source = settle-extracts source 0 (record { blocks = map freshBlock bs; settled = [] }) ∙ none bs
+start-extracts bs source = settle-extracts source 0 none (record { blocks = map freshBlock bs; settled = [] }) ∙ nothing bs
   where
-    none : (xs : List Block) → total (map (λ s. length (s .trace .model .extracted)) (map freshBlock xs)) ≡ 0
-    none [] = refl
-    none (x ∷ xs) = omega (arith, none xs)
+    nothing : (xs : List Block) → total (map (λ s. length (s .trace .model .extracted)) (map freshBlock xs)) ≡ 0
+    nothing [] = refl
+    nothing (x ∷ xs) = omega (arith, nothing xs)
 
 stops : (m : ℕ) (st : State) → chosen (steps m st) ≡ nobody → (j : ℕ) → steps (m + j) st ≡ steps m st
 unfolding steps advance extractFrom
@@ -169,9 +170,9 @@ module _ (bs : List Block) (n source : ℕ) (given : Setting bs n source) where
       let z : columnVertex (blockAt st i) (ch .col) ≡ v =
       let same : by (ch .col) s ≡ by c s = sym (ch .here) ∙ here in
       let y : ch .col ≡ c = cc in rw y in
-      let top : s ≤ maxLabel = labels-short (suc m) v s (rw (q, here, h) (label-new v (settledAt v s) (st .settled) refl h)) in
+      let top : s ≤ maxLabel = labels-short (suc m) v s (rw (q, here, h) (label-new v (settledAt v s _) (st .settled) refl h)) in
       every-imp _ _ (set (st .blocks) i (apply (blockAt st i) extraction)) (λ b good. welcome n (st .settled) _ s v h top b good)
-      (between bs n source (given .small) st (held .level) i s (held .inv) ch v z h)
+      (between bs n source (given .small) st (held .level) i s (held .inv) ch v none z h)
     where
       st : State
       st = steps m (start bs source)

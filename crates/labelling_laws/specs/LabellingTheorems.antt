@@ -1,4 +1,4 @@
--- The labelling of every accepted network: demand 2 and the count, each in full, with its argument.
+-- The labelling of every accepted network: demand 2, the count and the routes, each in full, with its argument.
 --   calls-done                    no call of the labelling is refused
 --   it-ends no-interval-left      in the end no block has an interval
 --   labels-limited held-limited   a label is at most `maxLabel`
@@ -6,35 +6,38 @@
 --   reached-counts                the vertices reached
 --   few-extractions few-insertions   the counts
 --   counts-held labels-held written-digits   a listing writes them by their digits
+--   routes route-to-source route-unreached routed route-is-walk   the route to a vertex: document 02, request 4
 --   every-block-a-trace           each block's model is that of a list of calls
---   lent-network depot-accepted   a network in lent buffers; the depot example
+--   lent-network lent-route depot-accepted   a network in lent buffers; the depot example
 -- `Accepted n pieces source` says that no cause turns away the network of n vertices with these pieces, nor the source
 -- (judgeBounds, judgePiece and judgeSource, the definitions by which the code judges, are 0).
 use mathlib.Core.Path.{_≡_, refl}
 use mathlib.Core.Bool.{not}
 use mathlib.Core.List.{List, [], _∷_}
 use mathlib.Core.Logic.{_≢_}
-use mathlib.Core.Option.{some}
+use mathlib.Core.Option.{none, some}
 use Prim.Native.Nat.{ℕ, suc, _*_, _≤_, _<_}
 use lib.Dec.{eqb}
 use lib.ListN.{getD, length}
 use Rattle.definitions.specs.Limits.{maxLabel, labelPlaces, columnBytes, unreached}
 use Rattle.definitions.specs.Lists.{count, all, every, mem, different, upFrom, downTo, within, firstCause, Every}
-use Rattle.definitions.specs.Network.{Piece, entry, sizeOf, Distance}
+use Rattle.definitions.specs.Network.{Piece, entry, sizeOf, Arc, Walk, Distance, RouteArc, Route, Routed}
 use Rattle.definitions.specs.Blocks.{splits, splitsOf, windows, windowsOf, rowsOf, columnsOf, blockOf, blocksOf, blocks, passes, weight}
 use Rattle.definitions.specs.Monge.{corners, isMonge}
 use Rattle.definitions.specs.Best.{nobody}
 use Rattle.definitions.specs.Model.{intervals}
-use Rattle.definitions.specs.Labelling.{labelOf, chosen, steps, start, labelling, reached, extractions, insertions, labels}
+use Rattle.definitions.specs.Labelling.{labelOf, chosen, steps, start, labelling, reached, extractions, insertions, heldLabel, labels, routeTo}
 use Rattle.definitions.specs.Judgement.{judgeBounds, judgeSize, judgeVertices, judgeRow, judgeRows, judgeBlocks, judgeSource, judgePiece, piecesOf}
 use Rattle.definitions.specs.Fields.{maxColumn, decimal, rightJustified, nineColumns}
-use Rattle.definitions.specs.Entries.{judgeLabelling}
+use Rattle.definitions.specs.Entries.{judgeLabelling, routeNetwork}
+use Rattle.definitions.specs.PlainPromises.{PlainRoute}
 use Rattle.labelling_laws.specs.Acceptance.{Accepted}
 use Rattle.labelling_laws.specs.Ends as ends
 use Rattle.labelling_laws.specs.LoopLaws.{chosen-none}
 use Rattle.labelling_laws.specs.BlockTraces.{Made, made}
+use Rattle.labelling_laws.specs.Routes.{route-walk}
 use Rattle.labelling_laws.specs.PieceBlocks as network
-use Rattle.labelling_laws.specs.LentNetworks.{lent-accepted}
+use Rattle.labelling_laws.specs.LentNetworks as lent
 use Rattle.labelling_laws.specs.ListedNumbers as listed
 
 module _ (n : ℕ) (pieces : List Piece) (source : ℕ) (ok : Accepted n pieces source) where
@@ -95,9 +98,31 @@ module _ (n : ℕ) (pieces : List Piece) (source : ℕ) (ok : Accepted n pieces 
   pub labels-held : (v l : ℕ) → labelOf v ((labelling (blocks pieces) source) .settled) ≡ some l → l ≤ maxColumn
   labels-held = listed.labels-held n pieces source ok
 
+  -- To each vertex reached there is a route: its arcs join up from the source on, each is an arc of the piece of its number, no vertex stands
+  -- twice, the lengths add up to the label, and there are at most 255. The arc that a vertex was settled by is that of its column's
+  -- parent: it starts from a vertex settled before, and its length is the difference of their labels. So along the arcs back the order of
+  -- settling falls; they end at the source, which alone was settled by no arc, and as many as there are settled vertices are enough.
+  pub routes : (v l : ℕ) → labelOf v ((labelling (blocks pieces) source) .settled) ≡ some l → Route pieces source v l (routeTo (labelling (blocks pieces) source) v)
+  routes = network.route n pieces source ok
+
+  -- No arc leads to the source, and none to a vertex that is not settled.
+  pub route-to-source : routeTo (labelling (blocks pieces) source) source ≡ []
+  route-to-source = network.route-source n pieces source ok
+
+  pub route-unreached : (v : ℕ) → labelOf v ((labelling (blocks pieces) source) .settled) ≡ none → routeTo (labelling (blocks pieces) source) v ≡ []
+  route-unreached = network.route-unreached n pieces source ok
+
+  -- The same of every vertex, with its label as the label buffer holds it: the label is the distance, so the route is a shortest one.
+  pub routed : (v : ℕ) → 1 ≤ v → v ≤ n → Routed pieces source v (heldLabel (labelOf v ((labelling (blocks pieces) source) .settled))) (routeTo (labelling (blocks pieces) source) v)
+  routed = network.routed n pieces source ok
+
 -- A number that nine columns hold is written by its digits: in a listing `-` stands for the unreached and for nothing else.
 pub written-digits : (x : ℕ) → x ≤ maxColumn → nineColumns x ≡ rightJustified columnBytes (decimal x)
 written-digits = listed.written-digits
+
+-- A route is a walk of its label's length, of those that a distance is the least of.
+pub route-is-walk : (pieces : List Piece) (s t label : ℕ) (arcs : List RouteArc) → Route pieces s t label arcs → Walk (Arc pieces) s t label
+route-is-walk = route-walk
 
 -- Demand 3 reaches the labelling: the model of each block is what some list of calls leaves of a fresh one, after any number of steps.
 pub every-block-a-trace : (pieces : List Piece) (source m : ℕ) → Every Made ((steps m (start (blocks pieces) source)) .blocks)
@@ -106,7 +131,12 @@ every-block-a-trace pieces source m = made (blocks pieces) source m
 -- What the labelling judges in its lent buffers is an accepted network: the theorems hold of every call that is not refused.
 pub lent-network : (n p : ℕ) (sizes vertices lengths : List ℕ) (source : ℕ) (buffer : List ℕ) → judgeLabelling n p sizes vertices lengths source buffer ≡ 0
     → Accepted n (piecesOf p sizes vertices lengths) source
-lent-network = lent-accepted
+lent-network = lent.lent-accepted
+
+-- What a route that is not refused returns and leaves, in plain terms: its buffers hold an accepted network, and its target is one of the vertices.
+pub lent-route : (n p : ℕ) (sizes vertices lengths : List ℕ) (source target : ℕ) (buffer : List ℕ) → routeNetwork n p sizes vertices lengths source target buffer .answer .number ≡ 0
+    → PlainRoute p sizes vertices lengths source target (routeNetwork n p sizes vertices lengths source target buffer .answer) (routeNetwork n p sizes vertices lengths source target buffer .arcs)
+lent-route = lent.lent-route
 
 -- The depot example is accepted, so that the theorems speak of something.
 depot : List Piece

@@ -5,7 +5,7 @@
 --   labels-length labels-none labels-at labels-read labels-set read-settled read-unsettled    the label buffer
 use mathlib.Core.Path.{_≡_, refl, sym, _∙_}
 use mathlib.Core.List.{List, [], _∷_, _++_, map}
-use mathlib.Core.Option.{none, some}
+use mathlib.Core.Option.{Option, none, some}
 use mathlib.Core.Logic.{_≢_}
 use Prim.Native.Nat.{ℕ, suc, _+_, _-_, _≤_, _<_}
 use native.Mathlib.Omega.{arith}
@@ -13,11 +13,12 @@ use lib.ListN.{getD, length, set, replicate, length-set, length-map, length-repl
 use lib.Seq.{getD-set-same, getD-set-other, ext-getD}
 use Rattle.definitions.specs.Limits.{maxLabel, labelPlaces, unreached}
 use Rattle.definitions.specs.Lists.{upFrom, Every}
+use Rattle.definitions.specs.Network.{RouteArc}
 use Rattle.definitions.specs.Blocks.{Block}
 use Rattle.definitions.specs.Best.{nobody, by, Lowest}
 use Rattle.definitions.specs.Laws.LeastLaws.{Found, found-is}
 use Rattle.definitions.specs.Model.{available, intervals}
-use Rattle.definitions.specs.Labelling.{BlockState, activation, extraction, freshBlock, apply, leastOf, placeOf, activateAt, activateVertex, settledAt, State, labelOf, settleAs, settle, noBlockState, chosen, placeIn, extractFrom, advance, start, heldLabel, labels}
+use Rattle.definitions.specs.Labelling.{BlockState, activation, extraction, freshBlock, apply, leastOf, placeOf, activateAt, activateVertex, settledAt, State, labelOf, settleAs, settle, noBlockState, chosen, placeIn, arcInto, extractFrom, advance, start, heldLabel, labels}
 use Rattle.logic.specs.Tests.{Equal, equal, differ, equality}
 use Rattle.basics.specs.ListLaws.{every-all}
 use Rattle.heap_laws.specs.Extract.{found-none}
@@ -27,7 +28,7 @@ use Rattle.labelling_laws.specs.BlockSteps.{blockAt, columnVertex}
 
 -- ---- the start and a step
 
-pub start-is : (bs : List Block) (source : ℕ) → start bs source ≡ record { blocks = map (activateVertex source 0) (map freshBlock bs); settled = settledAt source 0 ∷ [] }
+pub start-is : (bs : List Block) (source : ℕ) → start bs source ≡ record { blocks = map (activateVertex source 0) (map freshBlock bs); settled = settledAt source 0 none ∷ [] }
 unfolding start settle settleAs labelOf
 start-is bs source = refl
 
@@ -40,7 +41,7 @@ module _ (st : State) (i c s : ℕ) (first : chosen st ≡ by i s) (here : least
   pub advance-new : labelOf (columnVertex (blockAt st i) c) (st .settled) ≡ none
       → advance st ≡ record {
         blocks = map (activateVertex (columnVertex (blockAt st i) c) s) (set (st .blocks) i (apply (blockAt st i) extraction));
-        settled = st .settled ++ settledAt (columnVertex (blockAt st i) c) s ∷ [];
+        settled = st .settled ++ settledAt (columnVertex (blockAt st i) c) s (some (arcInto (blockAt st i) c)) ∷ [];
       }
   unfolding advance extractFrom settle settleAs placeIn
   advance-new h = rw (first, here, h)
@@ -104,19 +105,19 @@ labels-none ss = ext-getD 0 _ _ (labels-length _ ∙ sym (length-replicate {A = 
     (λ i l. let k : i < labelPlaces = rw labels-length at l in labels-at _ i k ∙ sym (getD-replicate labelPlaces i unreached 0 k))
 
 -- a vertex is settled: one store
-pub labels-set : (st st′ : State) (v l : ℕ) → labelOf v (st .settled) ≡ none → st′ .settled ≡ st .settled ++ settledAt v l ∷ [] → 1 ≤ v → v ≤ labelPlaces
+pub labels-set : (st st′ : State) (v l : ℕ) (a : Option RouteArc) → labelOf v (st .settled) ≡ none → st′ .settled ≡ st .settled ++ settledAt v l a ∷ [] → 1 ≤ v → v ≤ labelPlaces
     → labels st′ ≡ set (labels st) (v - 1) l
 unfolding heldLabel
-labels-set st st′ v l fresh grown low high = ext-getD 0 _ _ (labels-length st′ ∙ sym (length-set (labels st) (v - 1) l ∙ labels-length st))
+labels-set st st′ v l a fresh grown low high = ext-getD 0 _ _ (labels-length st′ ∙ sym (length-set (labels st) (v - 1) l ∙ labels-length st))
     (λ i k. let j : i < labelPlaces = rw labels-length at k in labels-at st′ i j ∙ rw grown (at i j (equality i (v - 1))))
   where
-    at : (i : ℕ) → i < labelPlaces → Equal i (v - 1) → heldLabel (labelOf (suc i) (st .settled ++ settledAt v l ∷ [])) ≡ getD (set (labels st) (v - 1) l) i 0
+    at : (i : ℕ) → i < labelPlaces → Equal i (v - 1) → heldLabel (labelOf (suc i) (st .settled ++ settledAt v l a ∷ [])) ≡ getD (set (labels st) (v - 1) l) i 0
     at i k (equal t q) =
         let p : suc i ≡ v = omega arith in
-        rw (p, label-new v (settledAt v l) (st .settled) refl fresh, q) (sym (getD-set-same (labels st) (v - 1) l 0 (rw labels-length (omega arith))))
+        rw (p, label-new v (settledAt v l a) (st .settled) refl fresh, q) (sym (getD-set-same (labels st) (v - 1) l 0 (rw labels-length (omega arith))))
     at i k (differ t q) =
         let p : suc i ≢ v = omega arith in
-        rw (label-other (suc i) (settledAt v l) (st .settled) p) (sym (getD-set-other (labels st) (v - 1) i l 0 q ∙ labels-at st i k))
+        rw (label-other (suc i) (settledAt v l a) (st .settled) p) (sym (getD-set-other (labels st) (v - 1) i l 0 q ∙ labels-at st i k))
 
 -- whether a vertex is settled, from its place in the buffer
 module _ (st : State) (v : ℕ) (low : 1 ≤ v) (high : v ≤ labelPlaces) where

@@ -17,7 +17,7 @@ use lib.Dec.{eqb}
 use lib.ListN.{getD, length, length-append}
 use Rattle.definitions.specs.Limits.{maxLength, maxLabel}
 use Rattle.definitions.specs.Lists.{mem, Every}
-use Rattle.definitions.specs.Network.{Rectangle}
+use Rattle.definitions.specs.Network.{Rectangle, RouteArc}
 use Rattle.definitions.specs.Blocks.{Block}
 use Rattle.definitions.specs.Best.{Best, nobody, by, lesser, least, leastFrom, Lowest}
 use Rattle.definitions.specs.Laws.LeastLaws.{found-is}
@@ -196,16 +196,16 @@ module _ (n : ℕ) (old xs : List Settled) (level : ℕ) where
       let i = place-in v (s .block .rows) r p in
       simp (lt-leb (length (s .block .rows)) r (i .0), fresh-row v no-label s h r p, le-ltb maxLabel level top, le-ltb level (s .trace .model .floor) (h .fine .floor))
 
-  pub activate-good : (v : ℕ) → labelOf v old ≡ none → level ≤ maxLabel
-      → (s : BlockState) → Good n old xs level s → Good n (old ++ settledAt v level ∷ []) xs level (activateVertex v level s)
+  pub activate-good : (v : ℕ) (a : Option RouteArc) → labelOf v old ≡ none → level ≤ maxLabel
+      → (s : BlockState) → Good n old xs level s → Good n (old ++ settledAt v level a ∷ []) xs level (activateVertex v level s)
   unfolding activateVertex activateAt apply activatedOne
-  activate-good v no-label top s h = go (placeOf v 0 (b .rows)) refl
+  activate-good v a no-label top s h = go (placeOf v 0 (b .rows)) refl
     where
       b : Block
       b = s .block
 
       now : List Settled
-      now = old ++ settledAt v level ∷ []
+      now = old ++ settledAt v level a ∷ []
 
       go : (y : Option ℕ) → placeOf v 0 (b .rows) ≡ y → Good n now xs level (activateAt y level s)
       go none p = record {

@@ -3,6 +3,8 @@
 --   labels-limited label-distance above-n   labels; a place of the label buffer, as a distance; places above n
 --   extractions-weight insertions-weight    the counts, against the sum over the pieces
 --   reached-count                           the vertices reached are the places that hold a label
+--   route routed                            the arcs to a vertex
+--   route-source route-unreached            none lead to the source or to a vertex that is not settled
 use mathlib.Core.Path.{_≡_, refl, sym, _∙_}
 use mathlib.Core.Option.{none, some}
 use mathlib.Core.Bool.{not}
@@ -15,19 +17,21 @@ use lib.Dec.{eqb}
 use lib.ListN.{getD, length, length-map}
 use Rattle.definitions.specs.Limits.{maxLabel, labelPlaces, unreached}
 use Rattle.definitions.specs.Lists.{count, mem, Every}
-use Rattle.definitions.specs.Network.{Piece, Distance, distance, none}
+use Rattle.definitions.specs.Network.{Piece, Distance, distance, none, RouteArc, IsArc, verticesOn, Route, Routed}
 use Rattle.definitions.specs.Blocks.{blocks, weight}
-use Rattle.definitions.specs.Labelling.{Settled, State, labelOf, columns, labelling, reached, extractions, insertions, heldLabel, labels}
+use Rattle.definitions.specs.Labelling.{Settled, State, labelOf, columns, labelling, reached, extractions, insertions, heldLabel, labels, routeTo}
 use Rattle.definitions.specs.Laws.Causes.{bounds-in, source-in}
 use Rattle.logic.specs.Tests.{Equal, equal, differ, equality}
-use Rattle.basics.specs.ListLaws.{every-map, Different, counted, count-same}
-use Rattle.labelling_laws.specs.Labels.{Status, settled, unsettled, status, labelled-mem, unlabelled}
+use Rattle.basics.specs.ListLaws.{every-map, Different, is-different, counted, count-same}
+use Rattle.labelling_laws.specs.Labels.{Status, settled, unsettled, status, labelled-mem, unlabelled, arc-none}
+use Rattle.labelling_laws.specs.Walks.{IsBlockArc}
 use Rattle.labelling_laws.specs.BlockSteps.{Setting}
-use Rattle.labelling_laws.specs.Ends.{labels-short, labels-in, vertices-in, vertices-differ, extractions-bound, insertions-bound}
+use Rattle.labelling_laws.specs.Ends.{labels-short, labels-in, reached-few, vertices-in, vertices-differ, extractions-bound, insertions-bound}
 use Rattle.labelling_laws.specs.Exact.{BlockDistance, labels-exact}
 use Rattle.labelling_laws.specs.Acceptance.{Accepted, Suits, suits}
-use Rattle.labelling_laws.specs.Arcs.{blocks-fit, walk-to-blocks, walk-to-pieces, all-rows, all-cols, rows-cols}
-use Rattle.labelling_laws.specs.LoopLaws.{labels-at}
+use Rattle.labelling_laws.specs.Arcs.{blocks-fit, PieceArc, of-piece, walk-to-blocks, walk-to-pieces, all-rows, all-cols, rows-cols}
+use Rattle.labelling_laws.specs.LoopLaws.{labels-at, labels-read}
+use Rattle.labelling_laws.specs.Routes.{joined-map, block-route, source-arc, route-none}
 
 -- ---- vertices from 1 on, as places from 0 on
 
@@ -136,3 +140,48 @@ module _ (n : ℕ) (pieces : List Piece) (source : ℕ) (ok : Accepted n pieces 
           let q : k ≢ unreached = omega (arith, labels-limited (suc i) k h) in
           labelled-mem (suc i) k xs h ∙ rw (h, ne-eqb k unreached q)
       test i l (unsettled h) = unlabelled (suc i) xs h ∙ rw h
+
+  -- ---- routes
+
+  piece-arc : (a : RouteArc) → IsBlockArc (blocks pieces) a → IsArc pieces a
+  piece-arc a b =
+      let s : PieceArc 1 pieces (a .piece) (a .from) (a .to) (a .length) = rw (b .piece-is) at (of-piece n (a .from) (a .to) (a .length) pieces suited (b .arc)) in
+      record { low = s .low; high = omega (arith, s .high); arc = s .arc }
+
+  pub route : (v l : ℕ) → labelOf v ((labelling (blocks pieces) source) .settled) ≡ some l → Route pieces source v l (routeTo (labelling (blocks pieces) source) v)
+  unfolding labelling reached
+  route v l q =
+      let r = block-route (blocks pieces) n source setting (columns (blocks pieces)) v l q in
+      record {
+        joins = joined-map (IsBlockArc (blocks pieces)) (IsArc pieces) piece-arc source v (routeTo last v) (r .joins);
+        no-repeat = is-different (verticesOn source (routeTo last v)) (r .no-repeat);
+        adds = r .adds;
+        few = omega (arith, r .few, reached-few (blocks pieces) n source setting (columns (blocks pieces)), setting .small);
+      }
+
+  pub route-source : routeTo (labelling (blocks pieces) source) source ≡ []
+  unfolding labelling
+  route-source = route-none last source (source-arc (blocks pieces) n source setting (columns (blocks pieces)))
+
+  pub route-unreached : (v : ℕ) → labelOf v ((labelling (blocks pieces) source) .settled) ≡ none → routeTo (labelling (blocks pieces) source) v ≡ []
+  route-unreached v q = route-none last v (arc-none v (last .settled) q)
+
+  pub routed : (v : ℕ) → 1 ≤ v → v ≤ n → Routed pieces source v (heldLabel (labelOf v ((labelling (blocks pieces) source) .settled))) (routeTo (labelling (blocks pieces) source) v)
+  unfolding heldLabel
+  routed v low high =
+      let z : suc (v - 1) ≡ v = omega arith in
+      let top : v ≤ labelPlaces = omega (arith, setting .small) in
+      record {
+        distance = rw (labels-read last v low top, z) at (label-distance (v - 1) (omega arith));
+        route = reach (status v (last .settled));
+        nowhere = miss (status v (last .settled));
+        at-source = λ e. rw (← e) route-source;
+      }
+    where
+      reach : Status v (last .settled) → heldLabel (labelOf v (last .settled)) ≢ unreached → Route pieces source v (heldLabel (labelOf v (last .settled))) (routeTo last v)
+      reach (settled l q) h = rw q (route v l q)
+      reach (unsettled q) h = absurd (h (rw q))
+
+      miss : Status v (last .settled) → heldLabel (labelOf v (last .settled)) ≡ unreached → routeTo last v ≡ []
+      miss (settled l q) h = let r : l ≡ unreached = rw q at h in absurd (omega (arith, labels-limited v l q))
+      miss (unsettled q) h = route-unreached v q

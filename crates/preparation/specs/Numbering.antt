@@ -18,10 +18,10 @@ use lib.Seq.{getD-append-add}
 use Rattle.definitions.specs.Limits.{maxPieces, maxSize, vertexPlaces}
 use Rattle.definitions.specs.Lists.{upFrom}
 use Rattle.definitions.specs.Network.{Piece, sizeOf}
-use Rattle.definitions.specs.Blocks.{splits, splitsOf, Window, windows, windowsOf, Block, blockOf, blocksOf, blocks}
+use Rattle.definitions.specs.Blocks.{splits, splitsOf, Window, windows, windowsOf, Block, blockOf, blocksOf, blocksFrom, blocks}
 use Rattle.definitions.specs.Judgement.{pieceAt, piecesOf}
 use Rattle.logic.specs.Tests.{split-at}
-use Rattle.basics.specs.Sequences.{upFrom-snoc, getD-each, map-at}
+use Rattle.basics.specs.Sequences.{length-upFrom, upFrom-snoc, getD-each, map-at}
 use Rattle.basics.specs.PiecePlaces.{piece-size}
 use Rattle.preparation.specs.Prepared.{sizeAt, Placement, place, piecePlacements, placementsUpTo, placementsOf, blocksUpTo, firstsOf}
 use Rattle.preparation.specs.Placements.{size-small, length-windowsOf, length-upTo}
@@ -57,12 +57,14 @@ size-none p sizes d l = rw (le-ltb d p l)
 
 -- the block at a placement
 abbrev pub blockAt : List ℕ → List ℕ → List ℕ → Placement → Block
-blockAt sizes vertices lengths x = blockOf (pieceAt sizes vertices lengths (x .piece)) (x .window)
+blockAt sizes vertices lengths x = blockOf (suc (x .piece)) (pieceAt sizes vertices lengths (x .piece)) (x .window)
 
-blocks-append : (qs rs : List Piece) → blocks (qs ++ rs) ≡ blocks qs ++ blocks rs
-unfolding blocks
-blocks-append [] rs = refl
-blocks-append (q ∷ qs) rs = rw (blocks-append qs rs) (sym (append-assoc (blocksOf q) (blocks qs) (blocks rs)))
+blocks-snoc : (d : ℕ) (qs : List Piece) (r : Piece) → blocksFrom d (qs ++ r ∷ []) ≡ blocksFrom d qs ++ blocksOf (d + length qs) r
+unfolding blocksFrom
+blocks-snoc d [] r = let e : d + 0 ≡ d = omega arith in rw e (append-nil (blocksOf d r))
+blocks-snoc d (q ∷ qs) r =
+    let e : d + suc (length qs) ≡ suc d + length qs = omega arith in
+    rw (e, blocks-snoc (suc d) qs r) (sym (append-assoc (blocksOf d q) (blocksFrom (suc d) qs) (blocksOf (suc d + length qs) r)))
 
 module _ (p : ℕ) (sizes vertices lengths : List ℕ) (fits : Fits p sizes vertices) where
   pub size-is : (d : ℕ) → d < p → sizeAt p sizes d ≡ getD sizes d 0
@@ -74,21 +76,22 @@ module _ (p : ℕ) (sizes vertices lengths : List ℕ) (fits : Fits p sizes vert
 
   -- ---- blocks by placements
 
-  blocks-piece : (d : ℕ) → d < p → blocks (pieceAt sizes vertices lengths d ∷ []) ≡ map (blockAt sizes vertices lengths) (piecePlacements d (sizeAt p sizes d))
-  unfolding blocks blocksOf piecePlacements
+  blocks-piece : (d : ℕ) → d < p → blocksOf (suc d) (pieceAt sizes vertices lengths d) ≡ map (blockAt sizes vertices lengths) (piecePlacements d (sizeAt p sizes d))
+  unfolding blocksOf piecePlacements
   blocks-piece d l =
-      append-nil (blocksOf (pieceAt sizes vertices lengths d))
-      ∙ rw (sizeOf-is d l) (sym (map-map (blockAt sizes vertices lengths) (place d) (windowsOf (sizeAt p sizes d))))
+      rw (sizeOf-is d l) (sym (map-map (blockAt sizes vertices lengths) (place d) (windowsOf (sizeAt p sizes d))))
 
   blocks-up-to : (d : ℕ) → d ≤ p → blocks (map (pieceAt sizes vertices lengths) (upFrom 0 d)) ≡ map (blockAt sizes vertices lengths) (placementsUpTo p sizes d)
-  unfolding upFrom blocks placementsUpTo
+  unfolding upFrom blocks blocksFrom placementsUpTo
   blocks-up-to zero l = refl
   blocks-up-to (suc d) l =
       let q = pieceAt sizes vertices lengths in
+      let count : 1 + length (map q (upFrom 0 d)) ≡ suc d = omega (arith, length-map (upFrom 0 d) q, length-upFrom 0 d) in
       ap (λ (ds : List ℕ). blocks (map q ds)) (upFrom-next d)
       ∙ ap blocks (map-append q (upFrom 0 d) (d ∷ []))
-      ∙ blocks-append (map q (upFrom 0 d)) (q d ∷ [])
-      ∙ ap (λ (bs : List Block). bs ++ blocks (q d ∷ [])) (blocks-up-to d (omega arith))
+      ∙ blocks-snoc 1 (map q (upFrom 0 d)) (q d)
+      ∙ ap (λ (k : ℕ). blocks (map q (upFrom 0 d)) ++ blocksOf k (q d)) count
+      ∙ ap (λ (bs : List Block). bs ++ blocksOf (suc d) (q d)) (blocks-up-to d (omega arith))
       ∙ ap (λ (bs : List Block). map (blockAt sizes vertices lengths) (placementsUpTo p sizes d) ++ bs) (blocks-piece d (omega arith))
       ∙ sym (map-append (blockAt sizes vertices lengths) (placementsUpTo p sizes d) (piecePlacements d (sizeAt p sizes d)))
 

@@ -6,11 +6,12 @@
 --   slots-rise slots-apart slots-end                    the words of different heaps do not meet, and end within all words
 --   entry-is rows-in cols-in cols-are rows-are sides-in a block is a window of the matrix
 --   row-vertex-is column-is                             where the vertices of its rows and of its columns stand
+--   block-piece block-places block-length               its piece, and where its entries stand
 use mathlib.Core.Path.{_≡_, refl, sym, ap, _∙_}
 use mathlib.Core.Bool.{true}
 use mathlib.Core.Logic.{_⊎_, inl, inr, _≢_}
 use mathlib.Core.List.{List, [], _∷_, map}
-use Prim.Native.Nat.{ℕ, zero, suc, pred, _+_, _-_, _*_, _≤_, _<_}
+use Prim.Native.Nat.{ℕ, zero, suc, pred, _+_, _-_, _*_, _/_, _≤_, _<_}
 use native.Mathlib.Nat.{le-refl}
 use native.Mathlib.Omega.{arith}
 use borrow.Author.Tests.{leb-true}
@@ -192,7 +193,7 @@ module _ (p : ℕ) (sizes vertices lengths : List ℕ) (fits : Fits p sizes vert
 
   pub block-of : (d j : ℕ) → d < p → j < 2 * pred (sizeAt p sizes d)
       → getD (blocks (piecesOf p sizes vertices lengths)) (blocksUpTo p sizes d + j) noBlock
-      ≡ blockOf (getD (piecesOf p sizes vertices lengths) d noPiece) (getD (windowsOf (sizeAt p sizes d)) j noWindow)
+      ≡ blockOf (suc d) (getD (piecesOf p sizes vertices lengths) d noPiece) (getD (windowsOf (sizeAt p sizes d)) j noWindow)
   unfolding piecesOf
   block-of d j l r =
       let few : d < maxPieces = omega (arith, fits .pieces-in) in
@@ -227,7 +228,7 @@ module _ (p : ℕ) (sizes vertices lengths : List ℕ) (fits : Fits p sizes vert
         let w = x .window in
         let j = w .col0 + (w .cols - 1 - k) in
         let e : rowPlaces * (rowPlaces * x .piece + (w .row0 + i)) + j ≡ rowPlaces * (rowOf x + i) + (rowPlaces - 1 - (colOf x + k)) = omega (arith, h .inside .cols-in, size-few) in
-        entry-at (pieceAt sizes vertices lengths (x .piece)) w i k l r
+        entry-at (suc (x .piece)) (pieceAt sizes vertices lengths (x .piece)) w i k l r
         ∙ length-at (x .piece) (w .row0 + i) j (h .piece-in) (omega (arith, h .inside .rows-in)) (omega (arith, h .inside .cols-in))
         ∙ rw e (sym (matrix-at lengths (rowOf x + i) (colOf x + k) (omega (arith, h .inside .rows-in, size-few, h .piece-in, fits .pieces-in)) (omega (arith, h .inside .cols-in, size-few))))
 
@@ -235,14 +236,14 @@ module _ (p : ℕ) (sizes vertices lengths : List ℕ) (fits : Fits p sizes vert
     row-placed i r =
         let j = x .window .row0 + i in
         let e : rowPlaces * x .piece + j ≡ rowOf x + i = omega arith in
-        row-vertex (pieceAt sizes vertices lengths (x .piece)) (x .window) i r ∙ vertex-placed j (omega (arith, h .inside .rows-in)) ∙ rw e
+        row-vertex (suc (x .piece)) (pieceAt sizes vertices lengths (x .piece)) (x .window) i r ∙ vertex-placed j (omega (arith, h .inside .rows-in)) ∙ rw e
 
     column-placed : (k : ℕ) → k < x .window .cols → getD (blockAt sizes vertices lengths x .cols) k 0 ≡ getD vertices (lastOf x - k) 0
     column-placed k r =
         let w = x .window in
         let j = w .col0 + (w .cols - 1 - k) in
         let e : rowPlaces * x .piece + j ≡ lastOf x - k = omega arith in
-        col-vertex (pieceAt sizes vertices lengths (x .piece)) w k r ∙ vertex-placed j (omega (arith, h .inside .cols-in)) ∙ rw e
+        col-vertex (suc (x .piece)) (pieceAt sizes vertices lengths (x .piece)) w k r ∙ vertex-placed j (omega (arith, h .inside .cols-in)) ∙ rw e
 
   -- ---- by the block's number
 
@@ -251,7 +252,7 @@ module _ (p : ℕ) (sizes vertices lengths : List ℕ) (fits : Fits p sizes vert
     rows-in =
         let x = getD (placementsOf p sizes) b noPlacement in
         let h = placed p sizes (fits .pieces-in) b l in
-        rw (row-is p sizes b l, block-at b l, block-rows (pieceAt sizes vertices lengths (x .piece)) (x .window))
+        rw (row-is p sizes b l, block-at b l, block-rows (suc (x .piece)) (pieceAt sizes vertices lengths (x .piece)) (x .window))
         (omega (arith, h .inside .rows-in, size-few x h, h .piece-in, fits .pieces-in))
 
     pub cols-in : colIn (partsOf p sizes) b + colsIn (partsOf p sizes) b ≤ rowPlaces
@@ -263,12 +264,12 @@ module _ (p : ℕ) (sizes vertices lengths : List ℕ) (fits : Fits p sizes vert
     pub cols-are : colsIn (partsOf p sizes) b ≡ length (getD (blocks (piecesOf p sizes vertices lengths)) b noBlock .cols)
     cols-are =
         let x = getD (placementsOf p sizes) b noPlacement in
-        rw (cols-is p sizes b l, block-at b l, block-cols (pieceAt sizes vertices lengths (x .piece)) (x .window))
+        rw (cols-is p sizes b l, block-at b l, block-cols (suc (x .piece)) (pieceAt sizes vertices lengths (x .piece)) (x .window))
 
     pub rows-are : rowCountIn (partsOf p sizes) b ≡ length (getD (blocks (piecesOf p sizes vertices lengths)) b noBlock .rows)
     rows-are =
         let x = getD (placementsOf p sizes) b noPlacement in
-        rw (rowCount-is p sizes b l, block-at b l, block-rows (pieceAt sizes vertices lengths (x .piece)) (x .window))
+        rw (rowCount-is p sizes b l, block-at b l, block-rows (suc (x .piece)) (pieceAt sizes vertices lengths (x .piece)) (x .window))
 
     pub sides-in : (1 ≤ colsIn (partsOf p sizes) b) × (rowCountIn (partsOf p sizes) b ≤ maxSize)
     sides-in =
@@ -281,14 +282,52 @@ module _ (p : ℕ) (sizes vertices lengths : List ℕ) (fits : Fits p sizes vert
     entry-is i k r s =
         let x = getD (placementsOf p sizes) b noPlacement in
         let h = placed p sizes (fits .pieces-in) b l in
-        let r′ : i < x .window .rows = rw (block-at b l, block-rows (pieceAt sizes vertices lengths (x .piece)) (x .window)) at r in
+        let r′ : i < x .window .rows = rw (block-at b l, block-rows (suc (x .piece)) (pieceAt sizes vertices lengths (x .piece)) (x .window)) at r in
         rw (row-is p sizes b l, col-is p sizes b l, block-at b l) (entry-placed x h i k r′ (rw (cols-is p sizes b l) at s))
+
+    -- the piece of a block, by the place of one of its rows; the place of an entry among the lent lengths, by those of its row and its column
+    pub block-piece : (i : ℕ) → i < length (getD (blocks (piecesOf p sizes vertices lengths)) b noBlock .rows)
+        → getD (blocks (piecesOf p sizes vertices lengths)) b noBlock .piece ≡ suc ((rowIn (partsOf p sizes) b + i) / rowPlaces)
+    unfolding blockAt blockOf
+    block-piece i r =
+        let x = getD (placementsOf p sizes) b noPlacement in
+        let h = placed p sizes (fits .pieces-in) b l in
+        let r′ : i < x .window .rows = rw (block-at b l, block-rows (suc (x .piece)) (pieceAt sizes vertices lengths (x .piece)) (x .window)) at r in
+        let d : (rowOf x + i) / rowPlaces ≡ x .piece = omega (arith, h .inside .rows-in, size-few x h) in
+        rw (row-is p sizes b l, block-at b l, d)
+
+    -- the places of a row and of a column are those of one piece
+    pub block-places : (i k : ℕ) → i < length (getD (blocks (piecesOf p sizes vertices lengths)) b noBlock .rows) → k < colsIn (partsOf p sizes) b
+        → let first = rowPlaces * ((rowIn (partsOf p sizes) b + i) / rowPlaces) in
+        (first ≤ lastIn (partsOf p sizes) b - k) × (lastIn (partsOf p sizes) b - k < first + rowPlaces)
+    block-places i k r s =
+        let x = getD (placementsOf p sizes) b noPlacement in
+        let h = placed p sizes (fits .pieces-in) b l in
+        let r′ : i < x .window .rows = rw (block-at b l, block-rows (suc (x .piece)) (pieceAt sizes vertices lengths (x .piece)) (x .window)) at r in
+        let s′ : k < x .window .cols = rw (cols-is p sizes b l) at s in
+        let d : (rowOf x + i) / rowPlaces ≡ x .piece = omega (arith, h .inside .rows-in, size-few x h) in
+        rw (row-is p sizes b l, last-is p sizes b l, d) (omega (arith, h .inside .cols-in, size-few x h), omega (arith, h .inside .cols-in, size-few x h))
+
+    pub block-length : (i k : ℕ) → i < length (getD (blocks (piecesOf p sizes vertices lengths)) b noBlock .rows) → k < colsIn (partsOf p sizes) b
+        → let at = rowIn (partsOf p sizes) b + i in
+        getD (blocks (piecesOf p sizes vertices lengths)) b noBlock .lengths i k ≡ getD lengths (rowPlaces * at + (lastIn (partsOf p sizes) b - k - rowPlaces * (at / rowPlaces))) 0
+    block-length i k r s =
+        let x = getD (placementsOf p sizes) b noPlacement in
+        let h = placed p sizes (fits .pieces-in) b l in
+        let r′ : i < x .window .rows = rw (block-at b l, block-rows (suc (x .piece)) (pieceAt sizes vertices lengths (x .piece)) (x .window)) at r in
+        let s′ : k < x .window .cols = rw (cols-is p sizes b l) at s in
+        let w = x .window in
+        let j = w .col0 + (w .cols - 1 - k) in
+        let e : rowPlaces * (rowPlaces * x .piece + (w .row0 + i)) + j ≡ rowPlaces * (rowOf x + i) + (lastOf x - k - rowPlaces * ((rowOf x + i) / rowPlaces)) = omega (arith, h .inside .rows-in, h .inside .cols-in, size-few x h) in
+        rw (row-is p sizes b l, last-is p sizes b l, block-at b l)
+        (entry-at (suc (x .piece)) (pieceAt sizes vertices lengths (x .piece)) w i k r′ s′
+        ∙ length-at (x .piece) (w .row0 + i) j (h .piece-in) (omega (arith, h .inside .rows-in)) (omega (arith, h .inside .cols-in)) ∙ ap (λ (m : ℕ). getD lengths m 0) e)
 
     pub row-vertex-is : (i : ℕ) → i < length (getD (blocks (piecesOf p sizes vertices lengths)) b noBlock .rows)
         → getD (getD (blocks (piecesOf p sizes vertices lengths)) b noBlock .rows) i 0 ≡ getD vertices (rowIn (partsOf p sizes) b + i) 0
     row-vertex-is i r =
         let x = getD (placementsOf p sizes) b noPlacement in
-        let r′ : i < x .window .rows = rw (block-at b l, block-rows (pieceAt sizes vertices lengths (x .piece)) (x .window)) at r in
+        let r′ : i < x .window .rows = rw (block-at b l, block-rows (suc (x .piece)) (pieceAt sizes vertices lengths (x .piece)) (x .window)) at r in
         rw (row-is p sizes b l, block-at b l) (row-placed x (placed p sizes (fits .pieces-in) b l) i r′)
 
     pub column-is : (k : ℕ) → k < colsIn (partsOf p sizes) b → getD (getD (blocks (piecesOf p sizes vertices lengths)) b noBlock .cols) k 0 ≡ getD vertices (lastIn (partsOf p sizes) b - k) 0

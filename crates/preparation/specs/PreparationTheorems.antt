@@ -51,7 +51,7 @@ module _ (p : ℕ) (sizes vertices lengths : List ℕ) (fits : Fits p sizes vert
   -- From there on stand the blocks of the piece, in the order of its windows.
   pub block-of-piece : (d j : ℕ) → d < p → j < 2 * pred (sizeAt p sizes d)
       → blockNo p sizes vertices lengths (getD (firstsOf p sizes) d 0 + j)
-      ≡ blockOf (getD (piecesOf p sizes vertices lengths) d noPiece) (getD (windowsOf (sizeAt p sizes d)) j noWindow)
+      ≡ blockOf (suc d) (getD (piecesOf p sizes vertices lengths) d noPiece) (getD (windowsOf (sizeAt p sizes d)) j noWindow)
   block-of-piece d j l r = rw (firsts-are p sizes d (omega (arith, fits .pieces-in))) (block-of p sizes vertices lengths fits d j l r)
 
   pub row-of-piece : (d j : ℕ) → d < p → j < 2 * pred (sizeAt p sizes d)
@@ -150,22 +150,22 @@ module _ (ws : List Window) (s start k : ℕ) (h : Stretch ws s start k) (l : 2 
 
 -- ---- rows
 
-module _ (q : Piece) (w : Window) (inside : w .row0 + w .rows ≤ sizeOf q) where
+module _ (d : ℕ) (q : Piece) (w : Window) (inside : w .row0 + w .rows ≤ sizeOf q) where
   -- a vertex at place i of the piece
   its-row : Different (q .vertices) → (v i : ℕ) → i < sizeOf q → getD (q .vertices) i 0 ≡ v → w .row0 ≤ i → i < w .row0 + w .rows
-      → placeOf v 0 (blockOf q w .rows) ≡ some (i - w .row0)
-  its-row = row-inside q w inside
+      → placeOf v 0 (blockOf d q w .rows) ≡ some (i - w .row0)
+  its-row = row-inside d q w inside
 
   no-row : Different (q .vertices) → (v i : ℕ) → i < sizeOf q → getD (q .vertices) i 0 ≡ v → (i < w .row0) ⊎ (w .row0 + w .rows ≤ i)
-      → placeOf v 0 (blockOf q w .rows) ≡ none
-  no-row = row-outside q w inside
+      → placeOf v 0 (blockOf d q w .rows) ≡ none
+  no-row = row-outside d q w inside
 
   -- a vertex that the piece does not have
-  no-vertex : (v : ℕ) → ((i : ℕ) → i < sizeOf q → getD (q .vertices) i 0 ≢ v) → placeOf v 0 (blockOf q w .rows) ≡ none
-  no-vertex = row-absent q w inside
+  no-vertex : (v : ℕ) → ((i : ℕ) → i < sizeOf q → getD (q .vertices) i 0 ≢ v) → placeOf v 0 (blockOf d q w .rows) ≡ none
+  no-vertex = row-absent d q w inside
 
 -- A place outside a stretch is a row of none of its blocks.
-elsewhere : (q : Piece) (s start k : ℕ) → sizeOf q ≤ maxSize → Stretch (windowsOf (sizeOf q)) s start k → Different (q .vertices)
+elsewhere : (d : ℕ) (q : Piece) (s start k : ℕ) → sizeOf q ≤ maxSize → Stretch (windowsOf (sizeOf q)) s start k → Different (q .vertices)
     → (v i : ℕ) → i < sizeOf q → getD (q .vertices) i 0 ≡ v → (i < start) ⊎ (start + k ≤ i)
-    → (j : ℕ) → j < 2 * pred k → placeOf v 0 (blockOf q (getD (windowsOf (sizeOf q)) (s + j) noWindow) .rows) ≡ none
+    → (j : ℕ) → j < 2 * pred k → placeOf v 0 (blockOf d q (getD (windowsOf (sizeOf q)) (s + j) noWindow) .rows) ≡ none
 elsewhere = row-elsewhere

@@ -6,5 +6,6 @@ pub mod Returns
 pub mod RowReading
 pub mod PieceReading
 pub mod Back
+pub mod QuestionReading
 pub mod Plans
 pub mod Accepted

@@ -1,70 +1,36 @@
 -- The whole text: its first line, its pieces, its question, and what is left in the lent buffers.
---   readQuestion question-..      the question line, its source, the text's end
 --   PlanRead                      what is returned and left, while the buffers start at 0
 --   body-.. plan-..               the plan, part by part
 --   After after-..                the answer and the buffers are the definition's
-use mathlib.Core.Path.{_≡_, refl, sym, ap, _∙_}
+use mathlib.Core.Path.{_≡_, refl, ap, _∙_}
 use mathlib.Core.Logic.{_≢_}
 use mathlib.Core.List.{List, map}
 use Prim.Native.Nat.{ℕ, _+_, _≤_, _<_}
 use native.Mathlib.Omega.{arith}
-use borrow.Author.Tests.{eq-eqb, ne-eqb, le-leb, lt-leb}
+use borrow.Author.Tests.{ne-eqb, le-leb, lt-leb}
 use lib.ListN.{getD, length, replicate}
 use Rattle.definitions.specs.declared.ReadAnswer.{ReadAnswer}
 use Rattle.definitions.specs.Limits.{maxText, sizePlaces, vertexPlaces, lengthPlaces}
 use Rattle.definitions.specs.Lists.{total, firstCause}
 use Rattle.definitions.specs.Network.{Piece}
-use Rattle.definitions.specs.Judgement.{judgeBounds, judgeSource}
+use Rattle.definitions.specs.Judgement.{judgeBounds}
 use Rattle.definitions.specs.Fields.{fieldAt}
-use Rattle.definitions.specs.Reading.{Read, refused, value, _>>=_, require, readLine, lineBytes, pieceBytes, readPieces, Plan, judgeEnd, readBody, readPlan, judgeLength}
-use Rattle.definitions.specs.Entries.{AfterRead, judgeBuffers, readRefusal, afterRead, reading}
+use Rattle.definitions.specs.Reading.{Read, refused, value, _>>=_, readLine, lineBytes, pieceBytes, readPieces, Question, readQuestion, Plan, readBody, readPlan, judgeLength}
+use Rattle.definitions.specs.Entries.{AfterRead, judgeBuffers, readRefusal, heldTarget, afterRead, reading}
 use Rattle.text.specs.Outcomes.{Came}
 use Rattle.text.specs.ReadSteps.{require-stop}
-use Rattle.text.specs.Returns.{came-out, came-go}
 use Rattle.text.specs.RowReading.{line-ends}
 use Rattle.text.specs.PieceReading.{Held, PiecesLeft}
-
--- ---- the question
-
-unfoldable pub readQuestion : List ℕ → ℕ → ℕ → Read ℕ
-readQuestion text n at = do
-  line ← readLine fieldAt text at 1
-  _ ← require (judgeSource n (getD line 0 0))
-  _ ← require (judgeEnd text (at + lineBytes 1))
-  value (getD line 0 0)
-
-module _ (text : List ℕ) (n at c : ℕ) (out : List ℕ) (came : Came (readLine fieldAt text at 1) c (λ xs. out ≡ xs)) (source : ℕ) (said : source ≡ getD out 0 0) where
-  pub question-line : c ≢ 0 → Came (readQuestion text n at) c (λ x. source ≡ x)
-  unfolding readQuestion
-  question-line h = came-out (readQuestion text n at) (λ x. source ≡ x) c h (rw (came .stopped h))
-
-  module _ (ok : c ≡ 0) where
-    line-is : readLine fieldAt text at 1 ≡ value out
-    line-is = let d = came .done ok in d .1 ∙ ap value (sym (d .2))
-
-    pub question-source : (k : ℕ) → k ≡ judgeSource n source → k ≢ 0 → Came (readQuestion text n at) k (λ x. source ≡ x)
-    unfolding readQuestion
-    question-source k e h =
-        came-out (readQuestion text n at) (λ x. source ≡ x) k h (rw (line-is, ← said, ← e, require-stop k h))
-
-    pub question-open : (k : ℕ) → k ≡ judgeSource n source → k ≡ 0 → length text ≢ at + lineBytes 1 → Came (readQuestion text n at) 3 (λ x. source ≡ x)
-    unfolding readQuestion judgeEnd
-    question-open k e z h =
-        let three : _≢_ {A = ℕ} 3 0 = λ w. omega arith in
-        came-out (readQuestion text n at) (λ x. source ≡ x) 3 three (rw (line-is, ← said, ← e, z, ne-eqb _ _ h))
-
-    pub question-done : (k : ℕ) → k ≡ judgeSource n source → k ≡ 0 → length text ≡ at + lineBytes 1 → Came (readQuestion text n at) 0 (λ x. source ≡ x)
-    unfolding readQuestion judgeEnd
-    question-done k e z h = came-go (readQuestion text n at) (λ x. source ≡ x) source (rw (line-is, ← said, ← e, z, eq-eqb _ _ h)) refl
+use Rattle.text.specs.QuestionReading.{Asks}
 
 -- ---- the plan
 
-abbrev planOf : ℕ → List Piece → ℕ → Plan
-planOf n qs source = record { n = n; pieces = qs; source = source }
+abbrev planOf : ℕ → List Piece → Question → Plan
+planOf n qs question = record { n = n; pieces = qs; source = question .source; target = question .target }
 
 -- what an accepted plan returns
 abbrev pub planAnswer : Plan → ReadAnswer
-planAnswer plan = record { number = 0; n = plan .n; p = length (plan .pieces); source = plan .source }
+planAnswer plan = record { number = 0; n = plan .n; p = length (plan .pieces); source = plan .source; target = heldTarget (plan .target) }
 
 pub record PlanRead (read : Read Plan) (answer : ReadAnswer) (sizes vertices lengths : List ℕ) : Type 0 where
   pub done : answer .number ≡ 0 → (plan : Plan) × (read ≡ value plan) × (answer ≡ planAnswer plan) × Held (plan .pieces) sizes vertices lengths
@@ -75,22 +41,9 @@ plan-out read k s v l h e = record { done = λ z. absurd (h z); stopped = λ _. 
 
 -- the question is read in its place
 body-by : (text : List ℕ) (n p : ℕ) (qs : List Piece) (at : ℕ) → judgeBounds n p ≡ 0 → readPieces text n (lineBytes 2) p ≡ value qs → at ≡ lineBytes 2 + total (map pieceBytes qs)
-    → readBody text n p ≡ _>>=_ (readQuestion text n at) (λ source. value (planOf n qs source))
-unfolding readBody readQuestion
-body-by text n p qs at b e q = rw (b, e, ← q) (ask (readLine fieldAt text at 1))
-  where
-    end : (source : ℕ) (r : Read (Unit {0})) → _>>=_ r (λ _. value (planOf n qs source)) ≡ _>>=_ (_>>=_ r (λ _. value source)) (λ s. value (planOf n qs s))
-    end source (refused k) = refl
-    end source (value u) = refl
-
-    judge : (source : ℕ) (r r′ : Read (Unit {0})) → _>>=_ r (λ _. _>>=_ r′ (λ _. value (planOf n qs source))) ≡ _>>=_ (_>>=_ r (λ _. _>>=_ r′ (λ _. value source))) (λ s. value (planOf n qs s))
-    judge source (refused k) r′ = refl
-    judge source (value u) r′ = end source r′
-
-    ask : (r : Read (List ℕ)) → _>>=_ r (λ line. _>>=_ (require (judgeSource n (getD line 0 0))) (λ _. _>>=_ (require (judgeEnd text (at + lineBytes 1))) (λ _. value (planOf n qs (getD line 0 0)))))
-        ≡ _>>=_ (_>>=_ r (λ line. _>>=_ (require (judgeSource n (getD line 0 0))) (λ _. _>>=_ (require (judgeEnd text (at + lineBytes 1))) (λ _. value (getD line 0 0))))) (λ s. value (planOf n qs s))
-    ask (refused k) = refl
-    ask (value line) = judge (getD line 0 0) (require (judgeSource n (getD line 0 0))) (require (judgeEnd text (at + lineBytes 1)))
+    → readBody text n p ≡ _>>=_ (readQuestion text n at) (λ question. value (planOf n qs question))
+unfolding readBody
+body-by text n p qs at b e q = rw (b, e, ← q)
 
 -- the pieces begin in the text, or at its end
 pub line-end-in-first : (text : List ℕ) (c : ℕ) {out : List ℕ} → Came (readLine fieldAt text 0 2) c (λ xs. out ≡ xs) → c ≡ 0 → lineBytes 2 ≤ length text
@@ -115,22 +68,19 @@ module _ (text : List ℕ) (n p : ℕ) where
     unfolding readBody
     body-pieces s v l h = plan-out (readBody text n p) k s v l h (rw (bounds, read .stopped h))
 
-    module _ (all-read : k ≡ 0) (j source : ℕ) (asked : Came (readQuestion text n next) j (λ x. source ≡ x)) where
-      body : (qs : List Piece) → readPieces text n (lineBytes 2) p ≡ value qs → next ≡ lineBytes 2 + total (map pieceBytes qs) → readBody text n p ≡ _>>=_ (readQuestion text n next) (λ t. value (planOf n qs t))
-      body qs e q = body-by text n p qs next bounds e q
-
+    module _ (all-read : k ≡ 0) (j source target : ℕ) (asked : Came (readQuestion text n next) j (Asks source target)) where
       pub body-question : (s v l : List ℕ) → j ≢ 0 → PlanRead (readBody text n p) (readRefusal j) s v l
       body-question s v l h =
           let w = read .done all-read in
-          plan-out (readBody text n p) j s v l h (body (w .0) (w .1) (w .2 .reached) ∙ rw (asked .stopped h))
+          plan-out (readBody text n p) j s v l h (body-by text n p (w .0) next bounds (w .1) (w .2 .reached) ∙ rw (asked .stopped h))
 
-      pub body-done : j ≡ 0 → PlanRead (readBody text n p) (record { number = 0; n = n; p = p; source = source }) s′ v′ l′
+      pub body-done : j ≡ 0 → PlanRead (readBody text n p) (record { number = 0; n = n; p = p; source = source; target = target }) s′ v′ l′
       body-done z =
           let w = read .done all-read in
           let a = asked .done z in
-          let e : readBody text n p ≡ value (planOf n (w .0) source) = body (w .0) (w .1) (w .2 .reached) ∙ rw (a .1, a .2) in
+          let e : readBody text n p ≡ value (planOf n (w .0) (a .0)) = body-by text n p (w .0) next bounds (w .1) (w .2 .reached) ∙ rw (a .1) in
           record {
-            done = λ _. (planOf n (w .0) source, e, rw (w .2 .count), w .2 .held);
+            done = λ _. (planOf n (w .0) (a .0), e, rw (w .2 .count, a .2 .0, a .2 .1), w .2 .held);
             stopped = λ m. absurd (m refl);
           }
 

@@ -2,6 +2,7 @@
 --   after after-after                 what is read behind what is in hand
 --   Inside field-inside field-in fields-in   a field, and a line's fields, lie in the text
 --   fields-turn fields-stop           one field more
+--   require-stop require-two          a cause, and the first of two
 --   line-go line-stop line-open       a line from its fields
 --   judged                            a line that is judged when it is read
 --   rows-go rows-stop pieces-..       one row more, one piece more
@@ -17,10 +18,12 @@ use lib.ListN.{getD, length, take, set}
 use lib.Seq.{take-suc-set}
 use native.Mathlib.Numerals.{add-one}
 use Rattle.logic.specs.Tests.{Truth, holds, fails, truth}
+use Rattle.definitions.specs.Lists.{firstCause}
 use Rattle.definitions.specs.Network.{Piece}
 use Rattle.definitions.specs.Judgement.{judgeSize, judgeVertices, judgeRow, judgeBlocks}
 use Rattle.definitions.specs.Fields.{lineEnd, fieldBytes, aField, noField, fieldAt, lengthAt}
 use Rattle.definitions.specs.Reading.{require, readRows, readPiece, pieceBytes, readPieces, FieldReading, Read, refused, value, _>>=_, readField, readFields, judgeLineEnd, readLine, lineBytes}
+use Rattle.definitions.specs.Laws.Causes.{refused as first, last}
 use Rattle.definitions.specs.Laws.ReadLaws.{bind-value, require-value}
 
 -- what is in hand, and then what is read
@@ -92,11 +95,18 @@ fields-in field inside text at (suc k) xs e h =
     let rest = bind-value (readFields field text (at + fieldBytes) k) _ xs (first .2) in
     omega (arith, fields-in field inside text (at + fieldBytes) k (rest .0) (rest .1) (field-in field inside text at (first .0) (first .1)))
 
--- ---- a cause
+-- ---- causes
 
 pub require-stop : (k : ℕ) → k ≢ 0 → require k ≡ refused k
 require-stop zero h = absurd (h refl)
 require-stop (suc k) h = refl
+
+-- two, of which one turns the text away
+pub require-two : {A : Type 0} (a b k : ℕ) (r : Read A) → k ≡ firstCause (a ∷ b ∷ []) → k ≢ 0 → _>>=_ (require a) (λ _. _>>=_ (require b) (λ _. r)) ≡ refused k
+unfolding firstCause
+require-two zero zero k r e h = absurd (h e)
+require-two zero (suc b) k r e h = ap refused (sym (e ∙ last (suc b)))
+require-two (suc a) b k r e h = ap refused (sym (e ∙ first (suc a) (b ∷ []) (λ z. omega arith)))
 
 -- ---- a line
 

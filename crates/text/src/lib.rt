@@ -2,18 +2,20 @@
 mod field_reader;
 
 ghost use mathlib.Core.Path.{_≡_};
-ghost use mathlib.Core.List.{[]};
+ghost use mathlib.Core.List.{[], _∷_};
 ghost use Prim.Native.Nat.{_+_, _<_, _≤_};
 ghost use lib.ListN.{length, replicate};
 ghost use Rattle.definitions.specs.Limits.{maxSize, sizePlaces, tablePlaces};
-ghost use Rattle.definitions.specs.Judgement.{judgeSize, judgeVertices, judgeRow};
+ghost use Rattle.definitions.specs.Lists.{firstCause};
+ghost use Rattle.definitions.specs.Judgement.{judgeSize, judgeVertices, judgeRow, judgeSource};
 ghost use Rattle.definitions.specs.Fields.{fieldBytes, fieldAt, lengthAt};
-ghost use Rattle.definitions.specs.Reading.{lineBytes, readField, readFields, readLine, readRows, readPieces, readBody, readPlan};
-ghost use Rattle.definitions.specs.Entries.{readRefusal, reading};
+ghost use Rattle.definitions.specs.Reading.{lineBytes, readField, readFields, readLine, readRows, readPieces, targetIn, questionSize, judgeAsked, readQuestion, readBody, readPlan};
+ghost use Rattle.definitions.specs.Entries.{readRefusal, heldTarget, reading};
 ghost use Rattle.text.specs.Outcomes.{Came, RowsLeft};
 ghost use Rattle.text.specs.ReadSteps.{judged, readSized};
 ghost use Rattle.text.specs.PieceReading.{Held, Room, Free, TableRead, SizedLeft, ReadPieceLeaves, PiecesLeft};
-ghost use Rattle.text.specs.Plans.{readQuestion, PlanRead};
+ghost use Rattle.text.specs.QuestionReading.{askedTarget, Asks, readQuestionLine};
+ghost use Rattle.text.specs.Plans.{PlanRead};
 use bounds::Cause;
 use bounds::Network;
 use bounds::Text;
@@ -244,43 +246,104 @@ fn read_pieces(
     }
 }
 
-// A question: the cause that it gives, or 0 and the source.
+// A question: the cause that it gives, or 0, the source and the target, which is `NO_TARGET` where there is none.
 struct Question {
     number: u32,
     source: u32,
+    target: u32,
 }
 
-// The question line, the judgement of its source, and then the text's end.
-fn read_question(text: &[u8], at: usize, n: u32) -> Question
+// How many fields a question line has: one where byte 10 follows the first, else two. Past the text's end there is no byte 10.
+fn question_size(text: &[u8], at: usize) -> usize
     requires { ⌜ at ≤ length (now text) ⌝ }
-    ensures { λ r. ⌜ Came (readQuestion (now (text .entry)) n at) (r .number) (λ source. r .source ≡ source) ⌝ }
+    ensures { λ r. ⌜ r ≡ questionSize (now (text .entry)) at ⌝ }
 {
-    let mut line = [0u32; 1];
-    let cause = read_line(text, at, &mut line);
-    let source = line[0];
+    if text.len() - at <= Text::FIELD_BYTES {
+        return 2;
+    }
+    if text[at + Text::FIELD_BYTES] == b'\n' {
+        return 1;
+    }
+    2
+}
+
+// The target that the fields of a question line say.
+fn target_in(fields: &[u32]) -> u32
+    ensures { λ r. ⌜ r ≡ heldTarget (targetIn (now (fields .entry))) ⌝ }
+{
+    if fields.len() < 2 {
+        return Network::NO_TARGET;
+    }
+    fields[1]
+}
+
+// The target if there is one, else 12. No field says the number that stands for none.
+fn judge_asked(n: u32, target: u32) -> u32
+    ensures { λ r. ⌜ r ≡ judgeAsked n (askedTarget target) ⌝ }
+{
+    if target == Network::NO_TARGET {
+        return Cause::NONE;
+    }
+    judgements::judge_target(n, target)
+}
+
+// The source, then the target: where both are wrong the first counts.
+fn judge_question(n: u32, source: u32, target: u32) -> u32
+    ensures { λ r. ⌜ r ≡ firstCause (judgeSource n source ∷ judgeAsked n (askedTarget target) ∷ []) ⌝ }
+{
+    let source_cause = judgements::judge_source(n, source);
+    let target_cause = judge_asked(n, target);
+    if source_cause != Cause::NONE {
+        return source_cause;
+    }
+    target_cause
+}
+
+// A question line of one field or two, as `fields` has places: its layout, its judgement, and then the text's end.
+fn read_question_line(text: &[u8], at: usize, n: u32, fields: &mut [u32]) -> Question
+    requires { ⌜ (at ≤ length (now text)) × (1 ≤ length (now fields)) × (length (now fields) ≤ 2) ⌝ }
+    ensures { λ r. ⌜ Came (readQuestionLine (now (text .entry)) n at (length (now (fields .entry)))) (r .number) (Asks (r .source) (r .target)) ⌝ }
+{
+    let cause = read_line(text, at, fields);
+    let source = fields[0];
+    let target = target_in(fields);
     if cause != Cause::NONE {
         return Question {
             number: cause,
             source,
+            target,
         };
     }
-    let outside = judgements::judge_source(n, source);
-    if outside != Cause::NONE {
+    let wrong = judge_question(n, source, target);
+    if wrong != Cause::NONE {
         return Question {
-            number: outside,
+            number: wrong,
             source,
+            target,
         };
     }
-    if text.len() - at != Text::LINE_OF_ONE {
+    if text.len() - at != Text::FIELD_BYTES * fields.len() + 1 {
         return Question {
             number: Cause::LAYOUT,
             source,
+            target,
         };
     }
     Question {
         number: Cause::NONE,
         source,
+        target,
     }
+}
+
+// The question line, of as many fields as it has.
+fn read_question(text: &[u8], at: usize, n: u32) -> Question
+    requires { ⌜ at ≤ length (now text) ⌝ }
+    ensures { λ r. ⌜ Came (readQuestion (now (text .entry)) n at) (r .number) (Asks (r .source) (r .target)) ⌝ }
+{
+    let mut line = [0u32; 2];
+    let k = question_size(text, at);
+    read_question_line(text, at, n, &mut line[..k])
 }
 
 // A refusal's answer: its number, and no network.
@@ -292,6 +355,7 @@ fn refusal(number: u32) -> ReadAnswer
         n: 0,
         p: 0,
         source: 0,
+        target: 0,
     }
 }
 
@@ -328,6 +392,7 @@ fn read_body(
         n,
         p,
         source: question.source,
+        target: question.target,
     }
 }
 

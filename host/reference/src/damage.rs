@@ -24,6 +24,25 @@ pub const DEPOT_LISTING: [&str; 6] = [
     "        5        -",
 ];
 
+/// Examples P13 to P18, our own, up to the question line: vertices 1 and 2 are a piece, 2 and 3 another, and 4 is in none.
+const CHAIN: [&str; 7] = [
+    "     4     2",
+    "     2     1     2",
+    "     0     5",
+    "     6     0",
+    "     2     2     3",
+    "     0     7",
+    "     8     0",
+];
+
+/// The question of P13, and what the program `labels` writes for it.
+pub const CHAIN_QUESTION: &str = "     1     3\n";
+pub const CHAIN_LISTING: [&str; 3] = [
+    "        1        3       12        2",
+    "        1        2        1        5",
+    "        2        3        2        7",
+];
+
 /// The lines as a text.
 pub fn text(lines: &[&str]) -> Vec<u8> {
     lines.iter().flat_map(|line| [line.as_bytes(), b"\n"]).collect::<Vec<_>>().concat()
@@ -36,6 +55,16 @@ pub fn depot_with(replaced: &[(usize, &str)]) -> Vec<u8> {
         lines[k] = line;
     }
     text(&lines)
+}
+
+/// The depot's text with this question line.
+pub fn depot_asked(question: &str) -> Vec<u8> {
+    depot_with(&[(6, question)])
+}
+
+/// The chain's text with something after its pieces.
+pub fn chain_and(tail: &str) -> Vec<u8> {
+    [&text(&CHAIN), tail.as_bytes()].concat()
 }
 
 /// The depot's text with something after it.
@@ -71,7 +100,18 @@ const DAMAGES: &[Damage] = &[
     ("a row too few", &[(5, "     1")], 3),
     ("a district too few", &[(0, "     5     2")], 3),
     ("an empty question line", &[(6, "")], 3),
-    ("two fields in the question line", &[(6, "     1     2")], 3),
+    ("a carriage return after the source", &[(6, "     1\r")], 3),
+    ("a blank after the source", &[(6, "     1 ")], 3),
+    ("a carriage return after the target", &[(6, "     1     2\r")], 3),
+    ("a blank after the target", &[(6, "     1     2 ")], 3),
+    ("a blank after the target's digit", &[(6, "     1    2 ")], 3),
+    ("a dash for a target", &[(6, "     1     -")], 3),
+    ("an empty target", &[(6, "     1      ")], 3),
+    ("a leading zero of a target", &[(6, "     1    02")], 3),
+    ("a column too few for a target", &[(6, "     1    2")], 3),
+    ("a column too many for a target", &[(6, "     1      2")], 3),
+    ("three fields in the question line", &[(6, "     1     2     3")], 3),
+    ("a third field that is none", &[(6, "     1     2x")], 3),
     ("no gates", &[(0, "     0     1")], 4),
     ("257 gates", &[(0, "   257     1")], 4),
     ("no districts", &[(0, "     5     0")], 4),
@@ -87,6 +127,9 @@ const DAMAGES: &[Damage] = &[
     ("P5: a block fails", &[(2, "     0     3     7    10")], 7),
     ("source 0", &[(6, "     0")], 8),
     ("source n + 1", &[(6, "     6")], 8),
+    ("target 0", &[(6, "     1     0")], 12),
+    ("target n + 1", &[(6, "     1     6")], 12),
+    ("as large a target as six columns hold", &[(6, "     1999999")], 12),
     // two causes at once
     ("n is 0 and p no field", &[(0, "     0     x")], 3),
     ("n is 0 and the line goes on", &[(0, "     0     1 ")], 3),
@@ -99,6 +142,15 @@ const DAMAGES: &[Damage] = &[
     ("a block fails and a later diagonal is not 0", &[(2, "     0     3     7    10"), (5, "     5     6     2     9")], 6),
     ("a block fails and the question line is bad", &[(2, "     0     3     7    10"), (6, "x")], 7),
     ("a block fails and the source is 0", &[(2, "     0     3     7    10"), (6, "     0")], 7),
+    ("a block fails and the target is 0", &[(2, "     0     3     7    10"), (6, "     1     0")], 7),
+    ("the source is 0 and a blank follows", &[(6, "     0 ")], 3),
+    ("the source is 0 and the target no field", &[(6, "     0     x")], 3),
+    ("source and target are 0", &[(6, "     0     0")], 8),
+    ("source and target are 0 and a field follows", &[(6, "     0     0     1")], 3),
+    ("source and target are n + 1", &[(6, "     6     6")], 8),
+    ("the source is n + 1 and the target sound", &[(6, "     6     1")], 8),
+    ("the target is 0 and a blank follows", &[(6, "     1     0 ")], 3),
+    ("the target is n + 1 and a field follows", &[(6, "     1     6     1")], 3),
 ];
 
 /// Damaged texts: what is wrong, the text, the number.
@@ -108,19 +160,24 @@ pub fn texts() -> Vec<(String, Vec<u8>, u32)> {
     let mut all: Vec<(String, Vec<u8>, u32)> =
         lines.map(|&(what, replaced, number)| (what.to_string(), depot_with(replaced), number)).collect();
     let mut add = |what: &str, text: Vec<u8>, number: u32| all.push((what.to_string(), text, number));
-    for end in 0..depot.len() {
-        add(&format!("the first {end} bytes"), depot[..end].to_vec(), 3);
+    for whole in [&depot, &depot_asked("     1     3")] {
+        for end in 0..whole.len() {
+            add(&format!("the first {end} bytes of {}", whole.len()), whole[..end].to_vec(), 3);
+        }
     }
     add("lines end with CR LF", DEPOT.join("\r\n").into_bytes(), 3);
     add("lines end with CR", DEPOT.join("\r").into_bytes(), 3);
     add("a blank in front", [b" ", &depot[..]].concat(), 3);
     add("a byte 0 for a blank", [b"\0", &depot[1..]].concat(), 3);
     add("a byte above 127", [b"\xff", &depot[1..]].concat(), 3);
-    for tail in ["\n", " ", "1", "     2\n", "\0", "\x1a"] {
-        add(&format!("{tail:?} after the question line"), depot_and(tail.as_bytes()), 3);
+    let asked =
+        [("     1", 3), ("     1     3", 3), ("     6", 8), ("     6     6", 8), ("     1     6", 12)];
+    for (question, number) in asked {
+        for tail in ["\n", " ", "1", "     2\n", "\0", "\x1a"] {
+            let text = [&depot_asked(question), tail.as_bytes()].concat();
+            add(&format!("{question:?}, and {tail:?} after its line"), text, number);
+        }
     }
-    let bad_source = depot_with(&[(6, "     6")]);
-    add("source n + 1, and a byte after", [&bad_source, &b"\n"[..]].concat(), 8);
     add("60,000 bytes", depot_and(&vec![b' '; 60_000 - depot.len()]), 3);
     add("60,001 bytes", depot_and(&vec![b' '; 60_001 - depot.len()]), 2);
     add("60,001 bytes of nothing", vec![0; 60_001], 2);
@@ -174,11 +231,12 @@ pub fn spoiled(plan: &Plan, rng: &mut Rng) -> Plan {
     let piece = &mut plan.pieces[d];
     let m = piece.vertices.len() as u32;
     let (i, j) = (rng.below(m) as usize, rng.below(m) as usize);
-    let place = match rng.below(10) {
+    let place = match rng.below(11) {
         0 => &mut plan.n,
         1 => &mut plan.source,
-        2..=4 => &mut piece.vertices[i],
-        5 => &mut piece.lengths[i][i],
+        2 => plan.target.get_or_insert(plan.source),
+        3..=5 => &mut piece.vertices[i],
+        6 => &mut piece.lengths[i][i],
         _ => &mut piece.lengths[i][j],
     };
     *place = odd(*place, rng).min(MAX_FIELD);

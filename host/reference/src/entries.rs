@@ -1,11 +1,12 @@
 //! What each entry of the library returns and leaves in its buffers, with the library's own arguments.
 
 use crate::model::{label_plan, Model};
-use crate::network::{is_monge, judge_places, judge_source, Lent, Plan};
+use crate::network::{is_monge, judge_places, judge_question, Lent, Plan};
 use crate::network::{
-    ANSWERS, CALLS, COLUMNS, INTERVALS, INTERVAL_SIZE, LABELS, LINE, LISTING, RECTANGLE, ROOM,
+    ANSWERS, ARC_SIZE, CALLS, COLUMNS, INTERVALS, INTERVAL_SIZE, LABELS, LINE, LISTING, RECTANGLE, ROOM,
+    ROUTE_PLACES,
 };
-use crate::network::{MAX_CALLS, MAX_LENGTH, MAX_SIZE};
+use crate::network::{MAX_CALLS, MAX_LENGTH, MAX_SIZE, NO_TARGET};
 use crate::number_of;
 use crate::text;
 
@@ -31,26 +32,26 @@ pub fn write_field(line: &mut [u8], place: usize, x: u32) -> u32 {
     0
 }
 
-/// number, n, p, source
-pub fn read_text(bytes: &[u8], sizes: &mut [u32], vertices: &mut [u32], lengths: &mut [u32]) -> [u32; 4] {
+/// number, n, p, source, target
+pub fn read_text(bytes: &[u8], sizes: &mut [u32], vertices: &mut [u32], lengths: &mut [u32]) -> [u32; 5] {
     if judge_places(sizes, vertices, lengths).is_err() {
-        return [1, 0, 0, 0];
+        return [1, 0, 0, 0, 0];
     }
     let plan = match text::read(bytes) {
-        Err(2) => return [2, 0, 0, 0],
+        Err(2) => return [2, 0, 0, 0, 0],
         outcome => outcome,
     };
     sizes.fill(0);
     vertices.fill(0);
     lengths.fill(0);
     match plan {
-        Err(number) => [number, 0, 0, 0],
+        Err(number) => [number, 0, 0, 0, 0],
         Ok(plan) => {
             let lent = Lent::of(&plan, 0);
             sizes.copy_from_slice(&lent.sizes);
             vertices.copy_from_slice(&lent.vertices);
             lengths.copy_from_slice(&lent.lengths);
-            [0, lent.n, lent.p, plan.source]
+            [0, lent.n, lent.p, plan.source, plan.target.unwrap_or(NO_TARGET)]
         }
     }
 }
@@ -60,23 +61,41 @@ pub fn check_network(lent: &Lent) -> u32 {
     number_of(lent.judge_places().and_then(|_| lent.pieces()))
 }
 
+/// The plan that a lent network and a question are. `has_room` says whether the buffer for the answer is of its size.
+fn judge_lent(lent: &Lent, has_room: bool, source: u32, target: Option<u32>) -> Result<Plan, u32> {
+    lent.judge_places()?;
+    if !has_room {
+        return Err(1);
+    }
+    let pieces = lent.pieces()?;
+    judge_question(lent.n, source, target)?;
+    Ok(Plan { n: lent.n, pieces, source, target })
+}
+
 /// number, reached, extracted, inserted
 pub fn label_network(lent: &Lent, source: u32, labels: &mut [u32]) -> [u32; 4] {
-    let plan = || -> Result<Plan, u32> {
-        lent.judge_places()?;
-        if labels.len() != LABELS {
-            return Err(1);
-        }
-        let pieces = lent.pieces()?;
-        judge_source(lent.n, source)?;
-        Ok(Plan { n: lent.n, pieces, source })
-    };
-    match plan() {
+    match judge_lent(lent, labels.len() == LABELS, source, None) {
         Err(number) => [number, 0, 0, 0],
         Ok(plan) => {
             let done = label_plan(&plan);
             labels.copy_from_slice(&done.labels);
             [0, done.reached, done.extracted, done.inserted]
+        }
+    }
+}
+
+/// number, label, how many arcs
+pub fn route_network(lent: &Lent, source: u32, target: u32, arcs: &mut [u32]) -> [u32; 3] {
+    match judge_lent(lent, arcs.len() == ROUTE_PLACES, source, Some(target)) {
+        Err(number) => [number, 0, 0],
+        Ok(plan) => {
+            let done = label_plan(&plan);
+            let route = done.route(target);
+            arcs.fill(0);
+            for (places, arc) in arcs.chunks_mut(ARC_SIZE).zip(&route) {
+                places.copy_from_slice(arc);
+            }
+            [0, done.label(target), route.len() as u32]
         }
     }
 }

@@ -1,6 +1,6 @@
 //! The plain book of a block, and the labelling over a fresh one for each block.
 
-use crate::network::{blocks, rectangle, Plan, INTERVAL_SIZE, LABELS, MAX_LENGTH, MAX_VERTICES};
+use crate::network::{blocks, rectangle, Plan, ARC_SIZE, INTERVAL_SIZE, LABELS, MAX_LENGTH, MAX_VERTICES};
 
 /// The largest label of an activation: a shortest walk has fewer arcs than there are vertices.
 pub const MAX_LABEL: u32 = (MAX_VERTICES - 1) * MAX_LENGTH;
@@ -121,27 +121,58 @@ impl Model {
     }
 }
 
-/// What a labelling finds: the labels as they are lent, vertex v at v - 1, and the counts.
+/// An arc: from vertex, to vertex, the number of its piece, from 1, and its length.
+pub type Arc = [u32; ARC_SIZE];
+
+/// What a labelling finds: the labels as they are lent, vertex v at v - 1; there too the arc that the vertex was settled by, which is
+/// none for the source; and the counts.
 #[derive(Clone, Debug, PartialEq, Eq)]
 pub struct Labelling {
     pub labels: Vec<u32>,
+    arcs: Vec<Option<Arc>>,
     pub reached: u32,
     pub extracted: u32,
     pub inserted: u32,
 }
 
-/// A block of the network: the vertices of its rows and columns, and its model.
+impl Labelling {
+    /// The label of a vertex.
+    pub fn label(&self, v: u32) -> u32 {
+        self.labels[v as usize - 1]
+    }
+
+    /// The arcs that lead to a vertex, in order: each vertex is reached by the arc that it was settled by, the source by none.
+    pub fn route(&self, target: u32) -> Vec<Arc> {
+        let arc_into = |v: u32| self.arcs[v as usize - 1];
+        let back = std::iter::successors(arc_into(target), |&[from, ..]| arc_into(from));
+        let mut route: Vec<Arc> = back.collect();
+        route.reverse();
+        route
+    }
+}
+
+/// A block of the network: the number of its piece, the vertices of its rows and columns, and its model.
 struct Numbered {
+    piece: u32,
     rows: Vec<u32>,
     columns: Vec<u32>,
     model: Model,
 }
 
+impl Numbered {
+    /// The arc into a column that is not extracted: that of the column's parent.
+    fn arc_into(&self, column: usize) -> Arc {
+        let (row, _) = self.model.parent(column).expect("a row is activated");
+        [self.rows[row], self.columns[column], self.piece, self.model.lengths[row][column]]
+    }
+}
+
 fn numbered_blocks(plan: &Plan) -> Vec<Numbered> {
     let mut all = Vec::new();
-    for piece in &plan.pieces {
+    for (number, piece) in (1..).zip(&plan.pieces) {
         for block in blocks(piece.vertices.len()) {
             all.push(Numbered {
+                piece: number,
                 rows: block.rows.iter().map(|&i| piece.vertices[i]).collect(),
                 columns: block.columns.iter().map(|&j| piece.vertices[j]).collect(),
                 model: Model::new(rectangle(piece, &block)),
@@ -154,11 +185,12 @@ fn numbered_blocks(plan: &Plan) -> Vec<Numbered> {
 /// The labelling of a plan that is accepted.
 pub fn label_plan(plan: &Plan) -> Labelling {
     let mut all = numbered_blocks(plan);
-    let mut labels = vec![UNREACHED; LABELS];
-    let (mut v, mut label, mut extracted) = (plan.source, 0, 0);
+    let (mut labels, mut arcs) = (vec![UNREACHED; LABELS], vec![None; LABELS]);
+    let (mut v, mut label, mut arc, mut extracted) = (plan.source, 0, None, 0);
     loop {
         if labels[v as usize - 1] == UNREACHED {
             labels[v as usize - 1] = label;
+            arcs[v as usize - 1] = arc;
             for b in &mut all {
                 if let Some(row) = b.rows.iter().position(|&x| x == v) {
                     let answer = b.model.call(1, row as u32, label);
@@ -166,17 +198,18 @@ pub fn label_plan(plan: &Plan) -> Labelling {
                 }
             }
         }
-        let sums = all.iter_mut().filter_map(|b| Some((b.model.least()?.1, b)));
-        let Some((_, b)) = sums.min_by_key(|(sum, _)| *sum) else {
+        let leasts = all.iter_mut().filter_map(|b| Some((b.model.least()?, b)));
+        let Some(((column, sum), b)) = leasts.min_by_key(|&((_, sum), _)| sum) else {
             break;
         };
-        let [_, column, sum] = b.model.call(2, 0, 0);
+        (v, label, arc) = (b.columns[column], sum, Some(b.arc_into(column)));
+        assert_eq!(b.model.call(2, 0, 0), [0, column as u32, sum], "another column is extracted");
         extracted += 1;
-        (v, label) = (b.columns[column as usize], sum);
     }
     Labelling {
         reached: labels.iter().filter(|&&l| l != UNREACHED).count() as u32,
         labels,
+        arcs,
         extracted,
         inserted: all.iter().map(|b| b.model.inserted).sum(),
     }

@@ -1,4 +1,4 @@
-//! Bounds and buffer sizes, a plan as its pieces, the blocks of a piece, the causes 1 and 4 to 8, and a network in lent buffers.
+//! Bounds and buffer sizes, a plan as its pieces, the blocks of a piece, the causes 1, 4 to 8 and 12, and a network in lent buffers.
 
 use std::ops::Range;
 
@@ -44,8 +44,16 @@ pub const INTERVALS: usize = INTERVAL_SIZE * ROOM;
 pub const COLUMNS: usize = 9;
 /// Bytes of the line that fields are written into: four of them.
 pub const LINE: usize = 4 * COLUMNS;
-/// Bytes of the longest listing: a line of four fields, and for each vertex a line of two.
-pub const LISTING: usize = LINE + 1 + LABELS * (2 * COLUMNS + 1);
+/// The most arcs of a route: it passes no vertex twice.
+pub const MAX_ARCS: usize = MAX_VERTICES as usize - 1;
+/// Numbers of an arc: from vertex, to vertex, piece, length.
+pub const ARC_SIZE: usize = 4;
+/// Places of the buffer of a route's arcs.
+pub const ROUTE_PLACES: usize = ARC_SIZE * MAX_ARCS;
+/// The target that the text reader returns where a question has none.
+pub const NO_TARGET: u32 = u32::MAX;
+/// Bytes of the longest listing, that of a route: a line of four fields, and one more for each arc.
+pub const LISTING: usize = (1 + MAX_ARCS) * (LINE + 1);
 
 /// A piece: its vertices in clockwise order, and the length from each to each.
 #[derive(Clone, Debug, PartialEq, Eq)]
@@ -54,12 +62,13 @@ pub struct Piece {
     pub lengths: Vec<Vec<u32>>,
 }
 
-/// A network of vertices 1 to n, and the source to label it from.
+/// A network of vertices 1 to n, and a question: from the source the labels of all vertices, or the route to a target.
 #[derive(Clone, Debug, PartialEq, Eq)]
 pub struct Plan {
     pub n: u32,
     pub pieces: Vec<Piece>,
     pub source: u32,
+    pub target: Option<u32>,
 }
 
 /// A block by places of its piece: rows clockwise, columns anticlockwise.
@@ -99,7 +108,7 @@ pub fn is_monge(e: &[Vec<u32>]) -> bool {
         .all(|pair| (1..pair[0].len()).all(|k| pair[0][k - 1] + pair[1][k] <= pair[0][k] + pair[1][k - 1]))
 }
 
-// ---- the causes 4 to 8
+// ---- the causes 4 to 8 and 12
 
 fn refuse_unless(holds: bool, number: u32) -> Result<(), u32> {
     if holds {
@@ -137,9 +146,10 @@ pub fn judge_blocks(piece: &Piece) -> Result<(), u32> {
     refuse_unless(all.iter().all(|b| is_monge(&rectangle(piece, b))), 7)
 }
 
-/// Cause 8.
-pub fn judge_source(n: u32, source: u32) -> Result<(), u32> {
-    refuse_unless((1..=n).contains(&source), 8)
+/// Cause 8, then cause 12 where there is a target.
+pub fn judge_question(n: u32, source: u32, target: Option<u32>) -> Result<(), u32> {
+    refuse_unless((1..=n).contains(&source), 8)?;
+    refuse_unless(target.is_none_or(|target| (1..=n).contains(&target)), 12)
 }
 
 // ---- lent buffers

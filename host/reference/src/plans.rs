@@ -5,7 +5,9 @@
 //! may be put together from any rectangles that pass, each chosen for itself (`hostile`): these obey no triangle rule.
 
 use crate::model::{Model, MAX_LABEL};
-use crate::network::{blocks, Piece, Plan, CALLS, MAX_LENGTH, MAX_VERTICES, RECTANGLE, ROOM, SIZES};
+use crate::network::{
+    blocks, Piece, Plan, CALLS, LABELS, MAX_LENGTH, MAX_SIZE, MAX_VERTICES, RECTANGLE, ROOM, SIZES,
+};
 
 /// SplitMix64.
 pub struct Rng(u64);
@@ -143,7 +145,7 @@ pub fn hostile(n: u32, sizes: &[usize], kinds: &[Kind], rng: &mut Rng) -> Plan {
     let mut piece = |&m: &usize| Piece { vertices: rng.choose(n, m), lengths: table(m, kinds, rng) };
     let pieces = sizes.iter().map(&mut piece).collect();
     let source = rng.from(1, n);
-    Plan { n, pieces, source }
+    Plan { n, pieces, source, target: None }
 }
 
 /// The longest street of a town.
@@ -178,7 +180,7 @@ pub fn city(down: usize, across: usize, side: usize, longest: u32, rng: &mut Rng
         }
     }
     let source = rng.from(1, n);
-    Plan { n, pieces, source }
+    Plan { n, pieces, source, target: None }
 }
 
 /// The crossings on the edge of a square.
@@ -241,6 +243,45 @@ fn thinned(mut plan: Plan, rng: &mut Rng) -> Plan {
     plan
 }
 
+/// The longest route: all vertices one behind the other, and the question from the first to the last of them. A short arc leads from each
+/// to the next, and every other arc of a piece is longer than all its short ones together.
+pub fn path(rng: &mut Rng) -> Plan {
+    let vertices = rng.choose(MAX_VERTICES, LABELS);
+    let length = |i: usize, j: usize| {
+        if i == j {
+            0
+        } else if i + 1 == j {
+            MAX_LENGTH / MAX_SIZE
+        } else {
+            MAX_LENGTH
+        }
+    };
+    // a piece begins with the vertex that the one before it ends with
+    let starts = (0..LABELS - 1).step_by(ROOM - 1);
+    let piece = |start: usize| {
+        let vertices = vertices[start..LABELS.min(start + ROOM)].to_vec();
+        let m = vertices.len();
+        let row = |i: usize| (0..m).map(|j| length(i, j)).collect();
+        Piece { lengths: (0..m).map(row).collect(), vertices }
+    };
+    Plan {
+        n: MAX_VERTICES,
+        pieces: starts.map(piece).collect(),
+        source: vertices[0],
+        target: Some(vertices[LABELS - 1]),
+    }
+}
+
+/// No target, the source, any vertex, or one of the last piece.
+fn target(plan: &Plan, rng: &mut Rng) -> Option<u32> {
+    match rng.below(10) {
+        0..=2 => None,
+        3 => Some(plan.source),
+        4 => Some(rng.from(1, plan.n)),
+        _ => plan.pieces.last().map(|piece| rng.pick(&piece.vertices)),
+    }
+}
+
 /// Plans of all sorts, the same ones for the same seed.
 pub fn all(seed: u64) -> Vec<Plan> {
     let mut rng = Rng::new(seed);
@@ -266,6 +307,10 @@ pub fn all(seed: u64) -> Vec<Plan> {
         let kinds = [rng.pick(&KINDS), rng.pick(&KINDS)];
         plans.push(hostile(n, &sizes, &kinds, rng));
     }
+    for plan in &mut plans {
+        plan.target = target(plan, rng);
+    }
+    plans.push(path(rng));
     plans
 }
 

@@ -1,8 +1,8 @@
 //! The layout of a text: fields of six bytes read, fields of nine columns written.
 
-use crate::model::label_plan;
+use crate::model::{label_plan, Labelling};
 use crate::network::{
-    judge_blocks, judge_bounds, judge_row, judge_size, judge_source, judge_vertices, Piece, Plan, MAX_TEXT,
+    judge_blocks, judge_bounds, judge_question, judge_row, judge_size, judge_vertices, Piece, Plan, MAX_TEXT,
 };
 
 /// The number that six bytes say, or 3.
@@ -62,9 +62,18 @@ impl Reader<'_> {
         judge_blocks(&piece)?;
         Ok(piece)
     }
+
+    /// The source, and the target if there is one: the question line has one field if byte 10 follows it, else two.
+    fn question(&mut self, n: u32) -> Result<(u32, Option<u32>), u32> {
+        let count = if self.text.get(self.at + 6) == Some(&10) { 1 } else { 2 };
+        let fields = self.line(count)?;
+        let (source, target) = (fields[0], fields.get(1).copied());
+        judge_question(n, source, target)?;
+        Ok((source, target))
+    }
 }
 
-/// The plan that a text says, or the cause, 2 to 8.
+/// The plan that a text says, or the cause, 2 to 8 or 12.
 pub fn read(text: &[u8]) -> Result<Plan, u32> {
     if text.len() > MAX_TEXT {
         return Err(2);
@@ -77,12 +86,11 @@ pub fn read(text: &[u8]) -> Result<Plan, u32> {
     for _ in 0..p {
         pieces.push(reader.piece(n)?);
     }
-    let source = reader.line(1)?[0];
-    judge_source(n, source)?;
+    let (source, target) = reader.question(n)?;
     if reader.at != text.len() {
         return Err(3);
     }
-    Ok(Plan { n, pieces, source })
+    Ok(Plan { n, pieces, source, target })
 }
 
 /// The text of a plan.
@@ -99,7 +107,8 @@ pub fn write(plan: &Plan) -> Vec<u8> {
             text += &line(row);
         }
     }
-    text += &line(&[plan.source]);
+    let question: Vec<u32> = [plan.source].into_iter().chain(plan.target).collect();
+    text += &line(&question);
     text.into_bytes()
 }
 
@@ -112,20 +121,35 @@ pub fn nine_columns(x: u32) -> String {
     }
 }
 
+/// Numbers in nine columns each, and byte 10.
+fn listing_line(numbers: &[u32]) -> String {
+    let columns: String = numbers.iter().map(|&x| nine_columns(x)).collect();
+    columns + "\n"
+}
+
+/// The labels of all vertices.
+fn label_lines(plan: &Plan, done: &Labelling) -> String {
+    let first = listing_line(&[plan.source, done.reached, done.extracted, done.inserted]);
+    let others = (1..=plan.n).map(|v| listing_line(&[v, done.label(v)]));
+    first + &others.collect::<String>()
+}
+
+/// The route to a target.
+fn route_lines(plan: &Plan, done: &Labelling, target: u32) -> String {
+    let route = done.route(target);
+    let first = listing_line(&[plan.source, target, done.label(target), route.len() as u32]);
+    let others = route.iter().map(|arc| listing_line(arc));
+    first + &others.collect::<String>()
+}
+
 /// What the program `labels` writes for a text.
 pub fn listing(text: &[u8]) -> Vec<u8> {
-    let plan = match read(text) {
-        Ok(plan) => plan,
-        Err(number) => return format!("refused {number}\n").into_bytes(),
+    let lines = match read(text) {
+        Err(number) => format!("refused {number}\n"),
+        Ok(plan) => match plan.target {
+            None => label_lines(&plan, &label_plan(&plan)),
+            Some(target) => route_lines(&plan, &label_plan(&plan), target),
+        },
     };
-    let line = |numbers: &[u32]| -> String {
-        let columns: String = numbers.iter().map(|&x| nine_columns(x)).collect();
-        columns + "\n"
-    };
-    let done = label_plan(&plan);
-    let mut lines = line(&[plan.source, done.reached, done.extracted, done.inserted]);
-    for v in 1..=plan.n {
-        lines += &line(&[v, done.labels[v as usize - 1]]);
-    }
     lines.into_bytes()
 }

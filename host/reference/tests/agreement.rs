@@ -1,11 +1,12 @@
-//! The model, the plain Dijkstra and the unproved FR-Dijkstra against each other, on plans of all sorts.
+//! The model, the plain Dijkstra and the unproved FR-Dijkstra against each other, and what every route must be, on plans of all sorts.
 
 use reference::damage::spoiled_lent;
 use reference::entries::check_network;
 use reference::fr_dijkstra::Counts;
-use reference::model::label_plan;
-use reference::network::{weight, Lent, Plan, LABELS, MAX_LENGTH};
+use reference::model::{label_plan, UNREACHED};
+use reference::network::{weight, Lent, Plan, LABELS, MAX_ARCS, MAX_LENGTH};
 use reference::plans::{all, Rng};
+use reference::routes::assert_route;
 use reference::text::{read, write};
 use reference::{dijkstra, fr_dijkstra};
 use std::collections::BTreeSet;
@@ -31,6 +32,16 @@ fn labels_and_counts_agree() {
         let expected = Counts { reached: done.reached, extracted: done.extracted, inserted: done.inserted };
         assert_eq!(counts, expected, "plan {k}");
         assert!(done.inserted <= 5 * weight(&plan), "plan {k}");
+    }
+}
+
+#[test]
+fn routes_are_what_they_should_be() {
+    for plan in all(5) {
+        let done = label_plan(&plan);
+        for v in 1..=plan.n {
+            assert_route(&plan, v, done.label(v), &done.route(v));
+        }
     }
 }
 
@@ -62,6 +73,12 @@ fn plans_cover_what_they_should() {
     assert!(some(&|plan| length(plan, MAX_LENGTH)));
     assert!(some(&breaks_triangle_rule));
     assert!(some(&|plan| one_way(plan)));
+    assert!(some(&|plan| plan.target.is_none()));
+    assert!(some(&|plan| plan.target == Some(plan.source)));
+    assert!(some(&|plan| plan.target.is_some_and(|v| label_plan(plan).label(v) == UNREACHED)));
+    let arcs = |plan: &Plan| plan.target.map_or(0, |v| label_plan(plan).route(v).len());
+    assert!(some(&|plan| (5..20).contains(&arcs(plan))));
+    assert!(some(&|plan| arcs(plan) == MAX_ARCS));
 }
 
 fn breaks_triangle_rule(plan: &Plan) -> bool {

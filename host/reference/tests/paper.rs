@@ -1,21 +1,23 @@
-//! The model against documents 01 and 02: the depot examples, the best of an interval, and the causes that the table of 01 names.
+//! The model against documents 01 and 02: the depot examples, the best of an interval, routes, and the causes that the papers name.
 
-use reference::damage::{depot_with, long_lengths, text, texts, DEPOT, DEPOT_LISTING};
-use reference::entries::{check_network, label_network, run_session};
-use reference::model::{Model, MAX_LABEL, UNREACHED};
+use reference::damage::{chain_and, depot_asked, depot_with, long_lengths, text, texts};
+use reference::damage::{CHAIN_LISTING, CHAIN_QUESTION, DEPOT, DEPOT_LISTING};
+use reference::entries::{check_network, label_network, read_text, route_network, run_session};
+use reference::model::{label_plan, Model, MAX_LABEL, UNREACHED};
 use reference::network::{is_monge, Lent};
 use reference::network::{
-    ANSWERS, CALLS, INTERVALS, LABELS, LENGTHS, LINE, LISTING, MAX_LENGTH, RECTANGLE, ROOM, SIZES, VERTICES,
+    ANSWERS, ARC_SIZE, CALLS, INTERVALS, LABELS, LENGTHS, LINE, LISTING, MAX_ARCS, MAX_LENGTH, NO_TARGET,
+    RECTANGLE, ROOM, ROUTE_PLACES, SIZES, VERTICES,
 };
 use reference::number_of;
-use reference::text::{field, listing, read};
+use reference::plans::{path, Rng};
+use reference::text::{field, listing, read, write};
 
 #[test]
 fn p1_and_p2() {
     assert_eq!(listing(&text(&DEPOT)), text(&DEPOT_LISTING));
-    let other_source = depot_with(&[(6, "     5")]);
     let first = b"        5        1        0        0\n";
-    assert!(listing(&other_source).starts_with(first));
+    assert!(listing(&depot_asked("     5")).starts_with(first));
 }
 
 #[test]
@@ -98,11 +100,119 @@ fn p12() {
     assert_eq!(listing(&depot_with(&[(2, "     0100000     7     5")])), text(&lines));
 }
 
+/// The text reader with 7 in every place before: number, n, p, source, target; and the network.
+fn read_lent(bytes: &[u8]) -> ([u32; 5], Lent) {
+    let [mut sizes, mut vertices, mut lengths] = [SIZES, VERTICES, LENGTHS].map(|size| vec![7; size]);
+    let answer = read_text(bytes, &mut sizes, &mut vertices, &mut lengths);
+    (answer, Lent { n: answer[1], p: answer[2], sizes, vertices, lengths })
+}
+
+/// The route that a text asks for, in the network that the reader leaves: number, label, arcs; and the buffer, which held 7s.
+fn route_lent(bytes: &[u8]) -> ([u32; 3], Vec<u32>) {
+    let ([.., source, target], lent) = read_lent(bytes);
+    let mut arcs = vec![7; ROUTE_PLACES];
+    (route_network(&lent, source, target, &mut arcs), arcs)
+}
+
+/// The buffer of these arcs.
+fn arcs_in_buffer(arcs: &[[u32; ARC_SIZE]]) -> Vec<u32> {
+    let mut places = arcs.concat();
+    places.resize(ROUTE_PLACES, 0);
+    places
+}
+
+/// The places of a buffer that do not hold 0, with what they hold.
+fn places_not_0(buffer: &[u32]) -> Vec<(usize, u32)> {
+    buffer.iter().copied().enumerate().filter(|&(_, x)| x != 0).collect()
+}
+
+/// The text is refused by this number: its line is written, the reader returns 0 beside it and leaves 0 in every place.
+fn assert_refused(bytes: &[u8], number: u32) {
+    let (answer, lent) = read_lent(bytes);
+    assert_eq!(answer, [number, 0, 0, 0, 0]);
+    assert!([lent.sizes, lent.vertices, lent.lengths].concat().iter().all(|&x| x == 0));
+    assert_eq!(listing(bytes), format!("refused {number}\n").as_bytes());
+}
+
+#[test]
+fn p13() {
+    let there = chain_and(CHAIN_QUESTION);
+    assert_eq!(listing(&there), text(&CHAIN_LISTING));
+    assert_eq!(route_lent(&there), ([0, 12, 2], arcs_in_buffer(&[[1, 2, 1, 5], [2, 3, 2, 7]])));
+    let (answer, lent) = read_lent(&there);
+    assert_eq!(answer, [0, 4, 2, 1, 3]);
+    assert_eq!(places_not_0(&lent.sizes), [(0, 2), (1, 2)]);
+    assert_eq!(places_not_0(&lent.vertices), [(0, 1), (1, 2), (24, 2), (25, 3)]);
+    assert_eq!(places_not_0(&lent.lengths), [(1, 5), (24, 6), (577, 7), (600, 8)]);
+    let back = [
+        "        3        1       14        2",
+        "        3        2        2        8",
+        "        2        1        1        6",
+    ];
+    assert_eq!(listing(&chain_and("     3     1\n")), text(&back));
+    let direct = ["        1        3        7        1", "        1        3        1        7"];
+    assert_eq!(listing(&depot_asked("     1     3")), text(&direct));
+}
+
+#[test]
+fn p14_and_p15() {
+    let unreached = chain_and("     1     4\n");
+    assert_eq!(listing(&unreached), b"        1        4        -        0\n");
+    assert_eq!(route_lent(&unreached), ([0, UNREACHED, 0], arcs_in_buffer(&[])));
+    let stay = chain_and("     3     3\n");
+    assert_eq!(listing(&stay), b"        3        3        0        0\n");
+    assert_eq!(route_lent(&stay), ([0, 0, 0], arcs_in_buffer(&[])));
+}
+
+#[test]
+fn p16_to_p18() {
+    assert_refused(&chain_and("     1     5\n"), 12);
+    assert_refused(&chain_and("     1     0\n"), 12);
+    assert_eq!(read_lent(&chain_and("     1\n")).0, [0, 4, 2, 1, NO_TARGET]);
+    assert_eq!(route_lent(&chain_and("     1\n")), ([12, 0, 0], vec![7; ROUTE_PLACES]));
+    assert_refused(&chain_and("     5     5\n"), 8);
+    assert_refused(&chain_and("     5     3\n\n"), 8);
+    assert_refused(&chain_and("     1     5\n\n"), 12);
+    assert_refused(&chain_and("     1     3\n\n"), 3);
+    assert_refused(&chain_and("     5     5     1\n"), 3);
+    assert_refused(&chain_and("     5     5"), 3);
+}
+
+/// Document 02, request 4: the leg into a gate is the owner's at the take that settled it. Of equal sums that of the earliest told row
+/// counts, and that of the lowest block.
+#[test]
+fn the_arc_of_equal_sums() {
+    // from 1 to 3 in 7: straight, by 2, which is told later, or by 4, in a higher block
+    assert_eq!(label_plan(&read(&text(&DEPOT)).unwrap()).route(3), [[1, 3, 1, 7]]);
+    // the same arc in two pieces
+    let twice = text(&[
+        "     2     2",
+        "     2     2     1",
+        "     0     9",
+        "     5     0",
+        "     2     1     2",
+        "     0     5",
+        "     9     0",
+        "     1     2",
+    ]);
+    assert_eq!(route_lent(&twice).1, arcs_in_buffer(&[[1, 2, 1, 5]]));
+}
+
+#[test]
+fn the_longest_route_fills_buffer_and_listing() {
+    let bytes = write(&path(&mut Rng::new(1)));
+    let ([number, _, count], arcs) = route_lent(&bytes);
+    assert_eq!((number, count as usize), (0, MAX_ARCS));
+    assert!(arcs.iter().all(|&x| x != 0));
+    assert_eq!(listing(&bytes).len(), LISTING);
+}
+
 #[test]
 fn sizes_and_bounds_are_the_stated_ones() {
     assert_eq!([SIZES, VERTICES, LENGTHS, LABELS], [16, 384, 9_216, 256]);
     assert_eq!([RECTANGLE, CALLS, ANSWERS, INTERVALS], [576, 192, 192, 120]);
-    assert_eq!([LINE, LISTING], [36, 4_901]);
+    assert_eq!([MAX_ARCS, ARC_SIZE, ROUTE_PLACES], [255, 4, 1_020]);
+    assert_eq!([LINE, LISTING], [36, 9_472]);
     assert_eq!([MAX_LENGTH, MAX_LABEL], [999_999, 254_999_745]);
 }
 
@@ -142,4 +252,12 @@ fn a_network_is_judged_in_the_stated_order() {
     assert_eq!(labels, [7; LABELS]);
     assert_eq!(label_network(&lent, 1, &mut labels), [0, 4, 8, 8]);
     assert_eq!(labels[..6], [0, 3, 7, 5, UNREACHED, UNREACHED]);
+    let mut arcs = [7; ROUTE_PLACES];
+    assert_eq!(route_network(&lent, 6, 6, &mut arcs[1..]), [1, 0, 0]);
+    assert_eq!(route_network(&lent, 6, 6, &mut arcs), [8, 0, 0]);
+    assert_eq!(route_network(&lent, 1, 6, &mut arcs), [12, 0, 0]);
+    assert_eq!(route_network(&lent, 1, 0, &mut arcs), [12, 0, 0]);
+    assert_eq!(route_network(&Lent { n: 257, ..lent.clone() }, 1, 0, &mut arcs), [4, 0, 0]);
+    assert_eq!(arcs, [7; ROUTE_PLACES]);
+    assert_eq!(route_network(&lent, 1, 4, &mut arcs), [0, 5, 1]);
 }

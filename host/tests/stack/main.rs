@@ -3,10 +3,10 @@
 
 mod region;
 
-use rabdzhine::{ANSWERS, INTERVALS, LABELS, LENGTHS, LINE, LISTING, SIZES, VERTICES};
+use rabdzhine::{ANSWERS, INTERVALS, LABELS, LENGTHS, LINE, LISTING, ROUTE_PLACES, SIZES, VERTICES};
 use rabdzhine::{
-    STACK_CHECK_NETWORK, STACK_LABEL_NETWORK, STACK_READ_FIELD, STACK_READ_TEXT, STACK_RUN_SESSION,
-    STACK_WRITE_FIELD, STACK_WRITE_LISTING,
+    STACK_CHECK_NETWORK, STACK_LABEL_NETWORK, STACK_READ_FIELD, STACK_READ_TEXT, STACK_ROUTE_NETWORK,
+    STACK_RUN_SESSION, STACK_WRITE_FIELD, STACK_WRITE_LISTING,
 };
 use reference::network::{Lent, Plan, MAX_CALLS, MAX_SIZE, MAX_VERTICES, ROOM};
 use reference::plans::{all, city, hostile, session, Rng, Session, KINDS, TOWN_STREET};
@@ -32,7 +32,7 @@ fn call<'a>(name: &'static str, stated: usize, make: impl FnMut() + 'a) -> Call<
 fn calls<'a>(plan: &'a Plan, lent: &'a Lent, bytes: &'a [u8], s: &'a Session) -> Vec<Call<'a>> {
     let (mut value, mut line) = ([0], [b' '; LINE]);
     let (mut sizes, mut vertices, mut lengths) = (vec![0; SIZES], vec![0; VERTICES], vec![0; LENGTHS]);
-    let (mut labels, mut listing) = (vec![0; LABELS], vec![0; LISTING]);
+    let (mut labels, mut arcs, mut listing) = (vec![0; LABELS], vec![0; ROUTE_PLACES], vec![0; LISTING]);
     let (mut answers, mut intervals) = (vec![0; ANSWERS], vec![0; INTERVALS]);
     vec![
         call("read_field", STACK_READ_FIELD, move || {
@@ -51,6 +51,11 @@ fn calls<'a>(plan: &'a Plan, lent: &'a Lent, bytes: &'a [u8], s: &'a Session) ->
             let Lent { n, p, sizes, vertices, lengths } = lent;
             rabdzhine::label_network(*n, *p, sizes, vertices, lengths, plan.source, &mut labels);
         }),
+        call("route_network", STACK_ROUTE_NETWORK, move || {
+            let Lent { n, p, sizes, vertices, lengths } = lent;
+            let target = plan.target.unwrap_or(plan.n);
+            rabdzhine::route_network(*n, *p, sizes, vertices, lengths, plan.source, target, &mut arcs);
+        }),
         call("run_session", STACK_RUN_SESSION, move || {
             let Session { rows, cols, count, lengths, calls } = s;
             rabdzhine::run_session(*rows, *cols, *count, lengths, calls, &mut answers, &mut intervals);
@@ -68,10 +73,16 @@ fn largest_sessions(rng: &mut Rng) -> Vec<Session> {
     KINDS.iter().filter_map(|&kind| largest(kind)).collect()
 }
 
-/// The largest plans, a town and one of each kind of table, and smaller ones of all sorts.
+/// The same plan with a question for a route.
+fn with_target(plan: &Plan) -> Plan {
+    Plan { target: Some(plan.n), ..plan.clone() }
+}
+
+/// The largest plans, a town and one of each kind of table, asked for labels and for a route, and smaller ones of all sorts.
 fn plans(rng: &mut Rng) -> Vec<Plan> {
     let mut plans = vec![city(4, 4, 6, TOWN_STREET, rng)];
     plans.extend(KINDS.map(|kind| hostile(MAX_VERTICES, &[ROOM; SIZES], &[kind], rng)));
+    plans.extend(plans.iter().map(with_target).collect::<Vec<_>>());
     plans.extend(all(41));
     plans
 }
@@ -92,14 +103,16 @@ fn most_taken() -> BTreeMap<&'static str, (usize, usize)> {
     most
 }
 
-/// Tries every entry on the largest plan and session.
+/// Tries every entry on the largest plan, asked for labels and for a route, and the largest session.
 fn on_largest(mut try_it: impl FnMut(Call)) {
     let mut rng = Rng::new(43);
     let session = &largest_sessions(&mut rng)[0];
     let plan = city(4, 4, 6, TOWN_STREET, &mut rng);
-    let bytes = write(&plan);
-    assert_eq!(bytes.len(), 58_116);
-    calls(&plan, &Lent::of(&plan, 0), &bytes, session).into_iter().for_each(&mut try_it);
+    for (plan, size) in [(&plan, 58_116), (&with_target(&plan), 58_122)] {
+        let bytes = write(plan);
+        assert_eq!(bytes.len(), size);
+        calls(plan, &Lent::of(plan, 0), &bytes, session).into_iter().for_each(&mut try_it);
+    }
 }
 
 /// The margin is for another compiler, and for a firmware's own `memcpy` and `memset`.

@@ -1,14 +1,13 @@
 -- `answer::put_vertices` meets its contract. The loop's invariant: the lines of the vertices from v on, put behind what stands in the
 -- output, give the whole.
 use mathlib.Core.Path.{_≡_, sym, _∙_}
-use mathlib.Core.List.{[], _∷_}
 use Prim.Native.Nat.{_+_, _-_, _*_, _≤_}
 use native.Mathlib.Omega.{arith}
 use borrow.Author.Needs.{needs}
-use lib.ListN.{getD, length}
+use lib.ListN.{length}
 use Rattle.definitions.specs.Entries.{listingLineBytes}
 use Rattle.basics.specs.Buffers.{put}
-use Rattle.answer.specs.Lines.{length-line, vertexLines, length-vertices, vertices-turn, vertices-all}
+use Rattle.answer.specs.Lines.{length-line, vertexFields, vertexLines, length-vertices, lines-turn, lines-all}
 use Rattle.answer.proofs.put_vertices.Statement.{statement}
 use Rattle.answer.proofs.put_vertices.Tie as tie
 
@@ -30,8 +29,8 @@ loop-again c =
     let l = c .before .before .before .before .before .before .before .loop in
     let a = c .before .before .before .before .before .before .before .before .before .before .args in
     let p = c .before .before .put-fields .ensures in
-    let turn = vertices-turn (a .labels .now) (l .out) (l .place) (a .n) (l .v) _ _ (omega arith) (omega arith) p in
-    (search needs, search needs, search needs, omega (arith, p .behind, length-line (l .v ∷ getD (a .labels .now) (l .v - 1) 0 ∷ [])), l .inv .4 ∙ turn)
+    let turn = lines-turn (vertexFields (a .labels .now)) (l .out) (l .place) (a .n + 1) (l .v) _ _ (omega arith) (omega arith) p in
+    (search needs, search needs, search needs, omega (arith, p .behind, length-line (vertexFields (a .labels .now) (l .v))), l .inv .4 ∙ turn)
 
 returns : tie.Need-returns Inv-loop μ-loop
 returns c =
@@ -40,7 +39,7 @@ returns c =
     let e : l .v ≡ a .n + 1 = omega arith in
     record {
       behind = omega (arith, length-vertices (a .labels .now) 1 (a .n));
-      stands = sym (l .inv .4 ∙ vertices-all (a .labels .now) (l .out) (l .place) (a .n) (l .v) e);
+      stands = sym (l .inv .4 ∙ lines-all (vertexFields (a .labels .now)) (l .out) (l .place) (a .n + 1) (l .v) e);
     }
 
 pub put-vertices-spec : {M : Type 1} → statement M

@@ -1,14 +1,12 @@
--- `answer::write_listing` meets its contract: a refusal is that of the reader, and the labelling of what the reader left in its buffers is the
--- listing, line by line.
-use mathlib.Core.Path.{_≡_, refl, ap, _∙_}
+-- `answer::write_listing` meets its contract: a refusal is that of the reader, and what is put of the network that the reader left in its
+-- buffers is what the question asks for.
+use mathlib.Core.Path.{_≡_}
 use mathlib.Core.List.{List}
-use Prim.Native.Nat.{ℕ, _+_}
+use Prim.Native.Nat.{ℕ}
 use native.Mathlib.Omega.{arith}
 use borrow.Author.Needs.{needs}
 use Rattle.definitions.specs.Entries.{refusalLine, listing}
-use Rattle.answer.specs.Lines.{length-line}
-use Rattle.answer.specs.Output.{put-both}
-use Rattle.answer.specs.Listed.{sized, Understood, read-accepted, read-refused, vertices-fit, labelled, untouched, finished}
+use Rattle.answer.specs.Listed.{sized, Understood, read-accepted, read-refused, lent, asks-labels, asks-route, untouched, finished}
 use Rattle.answer.proofs.write_listing.Statement.{statement}
 use Rattle.answer.proofs.write_listing.Tie as tie
 
@@ -45,24 +43,31 @@ returns-2 c =
     let then2 = c .before .before .before .before in
     finished _ _ (entered (readOf (then2 .before)) .if1 .left) _ _ _ (c .before .before .put-refusal .ensures) (refusal then2)
 
-put-vertices-requires : tie.Need-put-vertices-requires
-put-vertices-requires c κs =
-    let else2 = c .before .before .before .before .before .before .before .before .before .before .before .before .before in
-    let few = vertices-fit _ _ _ _ _ (understood else2) in
-    let next = c .before .before .before .before .put-fields .ensures .behind ∙ ap (λ (k : ℕ). 0 + k) (length-line _) in
-    (few, search needs, omega arith)
+put-labels-requires : tie.Need-put-labels-requires
+put-labels-requires c κs =
+    let then3 = c .before .before .before .before in
+    (search needs, lent _ _ _ _ _ (understood (then3 .before)))
 
 returns-3 : tie.Need-returns-3
 returns-3 c =
-    let labelling = c .before .before .before .before .before .before .before .before .before .before .before in
-    let else2 = labelling .before .before .before .before .before in
-    let counts = c .before .before .before .before .before .before .before .put-fields .ensures in
-    let lines = c .before .before .put-vertices .ensures in
-    finished _ _ (entered (readOf (else2 .before)) .if1 .left) _ _ _ (put-both _ _ _ _ _ _ _ _ counts lines (omega arith))
-    (labelled _ _ _ _ _ (understood else2) _ _ _ refl (labelling .label-network .ensures .0))
+    let then3 = c .before .before .before .before .before .before .before in
+    let else2 = then3 .before in
+    finished _ _ (entered (readOf (else2 .before)) .if1 .left) _ _ _ (c .before .before .put-labels .ensures) (asks-labels _ _ _ _ _ (understood else2) (then3 .if3 .taken))
+
+put-route-requires : tie.Need-put-route-requires
+put-route-requires c κs =
+    let else3 = c .before .before .before .before in
+    let known = understood (else3 .before) in
+    (search needs, lent _ _ _ _ _ known, asks-route _ _ _ _ _ known (else3 .if3 .left) .0)
+
+returns-4 : tie.Need-returns-4
+returns-4 c =
+    let else3 = c .before .before .before .before .before .before .before in
+    let else2 = else3 .before in
+    finished _ _ (entered (readOf (else2 .before)) .if1 .left) _ _ _ (c .before .before .put-route .ensures) (asks-route _ _ _ _ _ (understood else2) (else3 .if3 .left) .1)
 
 pub write-listing-spec : {M : Type 1} → statement M
 write-listing-spec =
     tie.close (tie.spec returns (λ c. search needs) (λ c. search needs) (λ c. search needs) (λ c κs. search needs) put-refusal-requires
-    (λ c. search needs) returns-2 (λ c. search needs) (λ c. search needs) (λ c. search needs) (λ c. search needs) (λ c κs. search needs)
-    (λ c. search needs) (λ c κs. search needs) (λ c. search needs) put-vertices-requires (λ c. search needs) returns-3)
+    (λ c. search needs) returns-2 (λ c. search needs) (λ c. search needs) (λ c. search needs) put-labels-requires (λ c. search needs)
+    returns-3 (λ c. search needs) (λ c. search needs) (λ c. search needs) put-route-requires (λ c. search needs) returns-4)

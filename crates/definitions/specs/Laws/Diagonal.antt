@@ -12,23 +12,23 @@ use mathlib.Core.Logic.{_≢_, _⊎_, inl, inr}
 use Prim.Native.Nat.{ℕ, zero, suc, _+_, _*_, _≤_, _<_}
 use native.Mathlib.Omega.{arith}
 use borrow.Author.Tests.{leb-true, le-leb, eq-eqb, ne-eqb}
-use lib.Dec.{eqb, leb}
+use lib.Dec.{leb}
 use lib.ListN.{getD, length, drop}
 use Rattle.definitions.specs.Limits.{maxVertices, maxPieces, maxSize, maxLength, maxText}
 use Rattle.definitions.specs.Lists.{every, different, within, total}
 use Rattle.definitions.specs.Network.{Piece, sizeOf}
 use Rattle.definitions.specs.Blocks.{blocksOf, passes}
-use Rattle.definitions.specs.Judgement.{judgeBounds, judgeSize, judgeVertices, judgeRow, judgeBlocks, judgeSource}
-use Rattle.definitions.specs.Fields.{fieldBytes, FieldAnswer, fieldAt, lengthAt}
-use Rattle.definitions.specs.Reading.{Read, refused, value, _>>=_, require, readField, readFields, judgeLineEnd, readLine, lineBytes, readRows, readPiece, pieceBytes, readPieces, Plan, judgeEnd, readBody, readPlan, judgeLength, readText}
+use Rattle.definitions.specs.Judgement.{judgeBounds, judgeSize, judgeVertices, judgeRow, judgeBlocks}
+use Rattle.definitions.specs.Fields.{fieldBytes, fieldAt, lengthAt}
+use Rattle.definitions.specs.Reading.{Read, refused, value, _>>=_, require, readField, readLine, lineBytes, readRows, readPiece, pieceBytes, readPieces, Question, readQuestion, Plan, readBody, readPlan, judgeLength, readText}
 use Rattle.definitions.specs.Written.{writtenLine, writtenPiece, StoppedPiece, DiagonalFirst}
-use Rattle.definitions.specs.Laws.Members.{every-test}
+use Rattle.definitions.specs.Laws.Members.{every-test, every-imp}
 use Rattle.definitions.specs.Laws.Causes.{test-holds, bounds-in, size-in, vertices-in, rows-short, Short}
-use Rattle.definitions.specs.Laws.ReadLaws.{value-same, bind-value, require-value, field-value, line-length}
+use Rattle.definitions.specs.Laws.ReadLaws.{value-same, bind-value, require-value, line-length}
 use Rattle.definitions.specs.Laws.FieldBound.{maxField, field-bound}
 use Rattle.definitions.specs.Laws.LineProofs.{length-reads, stands-both, line-written, rows-read, sized-written, pieces-read, two-numbers}
-use Rattle.definitions.specs.Laws.LineBack.{lengths-small, vertices-small, line-back, rows-back, sized-back, pieces-back}
-use Rattle.definitions.specs.Laws.NeverRefused.{Never, past, upto, either, value-never, then-never, require-is, cause-never, field-never, line-never}
+use Rattle.definitions.specs.Laws.LineBack.{lengths-small, vertices-small, line-small, line-back, rows-back, sized-back, pieces-back}
+use Rattle.definitions.specs.Laws.NeverRefused.{Never, past, upto, either, value-never, then-never, require-is, cause-never, field-never, line-never, question-never}
 
 -- ---- lengths
 
@@ -37,22 +37,8 @@ pub length-bound : (text : List ℕ) (at : ℕ) → (lengthAt text at) .value �
 unfolding lengthAt
 length-bound text at = omega (arith, field-bound text at)
 
-lengths-short : (text : List ℕ) (at k : ℕ) (xs : List ℕ) → readFields lengthAt text at k ≡ value xs → Short xs
-unfolding readFields
-lengths-short text at zero xs e = rw (← value-same [] xs e) tt
-lengths-short text at (suc k) xs e =
-    let a = bind-value (readField lengthAt text at) _ xs e in
-    let b = bind-value (readFields lengthAt text (at + fieldBytes) k) _ xs (a .2) in
-    let x = a .0 in
-    let is : (lengthAt text at) .value ≡ x = ap (λ (f : FieldAnswer). f .value) (field-value lengthAt text at x (a .1)) in
-    rw (← value-same (x ∷ b .0) xs (b .2)) (omega (arith, length-bound text at), lengths-short text (at + fieldBytes) k (b .0) (b .1))
-
 row-short : (text : List ℕ) (at m : ℕ) (row : List ℕ) → readLine lengthAt text at m ≡ value row → Short row
-unfolding readLine
-row-short text at m row e =
-    let a = bind-value (readFields lengthAt text at m) _ row e in
-    let b = bind-value (require (judgeLineEnd text (at + fieldBytes * m))) _ row (a .2) in
-    rw (← value-same (a .0) row (b .2)) (lengths-short text at m (a .0) (a .1))
+row-short text at m row e = every-imp (λ l. l ≤ maxField) (λ l. l ≤ maxLength) row (λ l k. omega arith) (line-small lengthAt length-reads text at m row e)
 
 -- a row whose lengths are in bounds is refused for its diagonal only
 wrong-diagonal : (i : ℕ) (row : List ℕ) → Short row → judgeRow i row ≡ 6 → getD row i 0 ≢ 0
@@ -183,7 +169,7 @@ piece-stop text n at e =
     (rows-stop text (at + lineBytes (suc m)) m 0 m f)
   where
     blocks-never : (q : Piece) → Never 6 (_>>=_ (require (judgeBlocks q)) (λ _. value q))
-    blocks-never q = then-never 6 (require (judgeBlocks q)) (λ _. value q) (cause-never 6 (every passes (blocksOf q)) 7 (λ z. omega arith)) (λ _. value-never 6 q)
+    blocks-never q = then-never 6 (require (judgeBlocks q)) (λ _. value q) (cause-never 6 (every passes (blocksOf 0 q)) 7 (λ z. omega arith)) (λ _. value-never 6 q)
 
 piece-stopped : (text : List ℕ) (n at : ℕ) (q : Piece) (row behind : List ℕ) → n ≤ maxField → StoppedPiece n q row → drop at text ≡ writtenPiece q ++ (writtenLine row ++ behind)
     → readPiece text n at ≡ refused 6
@@ -246,22 +232,18 @@ pieces-stopped (q ∷ qs) text n at (suc k) few read stop =
 -- ---- the whole text
 
 body-stop : (text : List ℕ) (n p : ℕ) → readBody text n p ≡ refused 6 → (judgeBounds n p ≡ 0) × PiecesStop text n (lineBytes 2) p
-unfolding readBody judgeBounds judgeSource judgeEnd
+unfolding readBody judgeBounds
 body-stop text n p e =
     let a = past 6 (require (judgeBounds n p)) _ (cause-never 6 (within maxVertices n && within maxPieces p) 4 (λ z. omega arith)) e in
     let b = upto 6 (readPieces text n (lineBytes 2) p) _ (λ qs. rest-never qs (lineBytes 2 + total (map pieceBytes qs))) (a .2) in
     (require-value (judgeBounds n p) (a .0) (a .1), pieces-stop text n (lineBytes 2) p b)
   where
-    said : List Piece → List ℕ → Plan
-    said qs question = record { n = n; pieces = qs; source = getD question 0 0 }
+    said : List Piece → Question → Plan
+    said qs question = record { n = n; pieces = qs; source = question .source; target = question .target }
 
     -- what follows the pieces
-    rest-never : (qs : List Piece) (at : ℕ)
-        → Never 6 (_>>=_ (readLine fieldAt text at 1) (λ question. _>>=_ (require (judgeSource n (getD question 0 0))) (λ _. _>>=_ (require (judgeEnd text (at + lineBytes 1))) (λ _. value (said qs question)))))
-    rest-never qs at =
-        then-never 6 (readLine fieldAt text at 1) _ (line-never fieldAt (λ t i. refl) 6 (omega arith) text at 1)
-        (λ question. then-never 6 (require (judgeSource n (getD question 0 0))) _ (cause-never 6 (within n (getD question 0 0)) 8 (λ z. omega arith))
-        (λ _. then-never 6 (require (judgeEnd text (at + lineBytes 1))) _ (cause-never 6 (eqb (length text) (at + lineBytes 1)) 3 (λ z. omega arith)) (λ _. value-never 6 (said qs question))))
+    rest-never : (qs : List Piece) (at : ℕ) → Never 6 (_>>=_ (readQuestion text n at) (λ question. value (said qs question)))
+    rest-never qs at = then-never 6 (readQuestion text n at) _ (question-never 6 (omega arith) (λ z. omega arith) (λ z. omega arith) text n at) (λ question. value-never 6 (said qs question))
 
 lines-joined : (text first two front middle back stop : List ℕ) → first ≡ two → text ≡ writtenLine first ++ front → front ≡ middle ++ back → back ≡ stop → text ≡ writtenLine two ++ (middle ++ stop)
 lines-joined text first two front middle back stop f t m b = t ∙ rw (f, m, b)

@@ -3,6 +3,7 @@
 --   digits-room                     how many there are
 --   skip-justified                  what is right-justified stands after the blanks
 --   length-written field-back       six bytes, which say the number
+--   field-begins                    the first of them is no line's end
 use mathlib.Core.Path.{_≡_, refl}
 use mathlib.Core.Bool.{true}
 use mathlib.Core.List.{List, [], _∷_, _++_}
@@ -11,10 +12,10 @@ use Prim.Native.Nat.{ℕ, zero, suc, _+_, _-_, _*_, _/_, _%_, _^_, _≤_, _<_}
 use native.Mathlib.Nat.{pow-succ'}
 use native.Mathlib.Omega.{arith}
 use borrow.Author.Tests.{le-leb, ne-eqb}
-use lib.ListN.{length, replicate, length-append, length-replicate}
-use Rattle.logic.specs.Tests.{and-left, Order, less, more, order, Equal, equal, differ, equality}
+use lib.ListN.{getD, length, replicate, length-append, length-replicate}
+use Rattle.logic.specs.Tests.{clash, and-left, Order, less, more, order, Equal, equal, differ, equality}
 use Rattle.definitions.specs.Lists.{every}
-use Rattle.definitions.specs.Fields.{blank, fieldBytes, isDigit, skipBlanks, isNumeral, numeralValue, aField, fieldOf, digitsOf, decimal, rightJustified}
+use Rattle.definitions.specs.Fields.{blank, lineEnd, fieldBytes, isDigit, skipBlanks, isNumeral, numeralValue, aField, fieldOf, digitsOf, decimal, rightJustified}
 use Rattle.definitions.specs.Written.{writtenField}
 use Rattle.definitions.specs.Laws.FieldProofs.{digits-one, digits-more, digit-in}
 use Rattle.definitions.specs.Laws.FieldBound.{maxField}
@@ -125,3 +126,16 @@ unfolding writtenField rightJustified decimal fieldOf
 field-back x h =
     let numeral : isNumeral (digitsOf 10 x) ≡ true = digits-numeral 9 x (omega arith) in
     rw (skip-blanks (fieldBytes - length (digitsOf 10 x)) (digitsOf 10 x) (skip-numeral (digitsOf 10 x) numeral), numeral, digits-value 10 x (omega arith))
+
+-- with a blank or a digit
+begins : (k : ℕ) (ds rest : List ℕ) → isNumeral ds ≡ true → getD ((replicate k blank ++ ds) ++ rest) 0 0 ≢ lineEnd
+unfolding isNumeral every
+begins zero [] rest h = absurd (clash h refl)
+begins zero (d ∷ ds) rest h =
+    let r = digit-in d (and-left (isDigit d) (every isDigit ds) (and-left (every isDigit (d ∷ ds)) _ h)) in
+    λ q. omega arith
+begins (suc k) ds rest h = λ q. omega arith
+
+pub field-begins : (x : ℕ) (rest : List ℕ) → x ≤ maxField → getD (writtenField x ++ rest) 0 0 ≢ lineEnd
+unfolding writtenField rightJustified decimal
+field-begins x rest h = begins (fieldBytes - length (digitsOf 10 x)) (digitsOf 10 x) rest (digits-numeral 9 x (omega arith))

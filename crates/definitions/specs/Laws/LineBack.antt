@@ -1,28 +1,32 @@
 -- From a plan that no cause turns away to its text, which is read back: part of `accepted-exactly` in the file Text.
 --   Small lengths-small vertices-small   numbers that have room in their fields
---   behind                          the text behind bytes that stand at a place
+--   line-small                      those of a line that was read have
+--   behind byte-here                the text behind bytes that stand at a place, and the first of them
 --   fields-back line-back           fields and a line that stand at a place are read there
---   rows-back piece-back pieces-back body-back   so are rows, pieces and all that follows the first line
---   text-back                       the whole text
+--   rows-back piece-back pieces-back   so are rows and pieces
+--   question-back                   so is the question line, with nothing behind it
+--   body-back text-back             so is all that follows the first line, and the whole text
 use mathlib.Core.Path.{_≡_, refl, sym, ap, _∙_}
 use mathlib.Core.List.{List, [], _∷_, _++_, map, flatMap, append-assoc, append-nil}
-use Prim.Native.Nat.{ℕ, suc, _+_, _-_, _*_, _≤_}
+use mathlib.Core.Option.{Option, none, some}
+use Prim.Native.Nat.{ℕ, zero, suc, _+_, _-_, _*_, _≤_, _<_}
 use native.Mathlib.Omega.{arith}
-use borrow.Author.Tests.{le-leb, eq-eqb}
+use borrow.Author.Tests.{le-leb, eq-eqb, ne-eqb}
 use lib.ListN.{getD, length, drop, length-append, length-drop}
 use lib.Seq.{take-at, drop-at, drop-drop, getD-drop}
 use Rattle.definitions.specs.Limits.{maxLength}
 use Rattle.definitions.specs.Lists.{Every, total}
 use Rattle.definitions.specs.Network.{Piece, sizeOf}
-use Rattle.definitions.specs.Judgement.{judgeSize, judgeVertices, judgeRow, judgeRows, judgeBlocks, judgePiece}
-use Rattle.definitions.specs.Fields.{lineEnd, fieldBytes, aField, fieldAt, lengthAt}
-use Rattle.definitions.specs.Reading.{FieldReading, value, readField, readFields, judgeLineEnd, readLine, lineBytes, readRows, readPiece, pieceBytes, readPieces, Plan, judgeEnd, readBody, readPlan}
+use Rattle.definitions.specs.Judgement.{judgeSize, judgeVertices, judgeRow, judgeRows, judgeBlocks, judgePiece, judgeSource}
+use Rattle.definitions.specs.Fields.{lineEnd, fieldBytes, FieldAnswer, aField, fieldAt, lengthAt}
+use Rattle.definitions.specs.Reading.{FieldReading, value, require, readField, readFields, judgeLineEnd, readLine, lineBytes, readRows, readPiece, pieceBytes, readPieces, judgeEnd, targetIn, questionOf, questionSize, judgeAsked, readQuestion, Plan, readBody, readPlan}
 use Rattle.definitions.specs.Laws.Members.{every-imp}
-use Rattle.definitions.specs.Laws.Causes.{no-cause, size-in, bounds-in, source-in, vertices-in, Short, rows-short}
-use Rattle.definitions.specs.Written.{writtenField, writtenLine, writtenPiece, written, SoundPiece, SoundPlan}
+use Rattle.definitions.specs.Laws.Causes.{no-cause, size-in, bounds-in, source-in, target-in, vertices-in, Short, rows-short}
+use Rattle.definitions.specs.Written.{writtenField, writtenLine, writtenPiece, questionFields, written, SoundPiece, SoundPlan}
+use Rattle.definitions.specs.Laws.ReadLaws.{value-same, bind-value, field-value}
 use Rattle.definitions.specs.Laws.LineProofs.{Reads, length-reads}
-use Rattle.definitions.specs.Laws.FieldBound.{maxField}
-use Rattle.definitions.specs.Laws.FieldBack.{length-written, field-back}
+use Rattle.definitions.specs.Laws.FieldBound.{maxField, field-bound}
+use Rattle.definitions.specs.Laws.FieldBack.{length-written, field-back, field-begins}
 
 -- numbers that have room in their fields
 abbrev Small : List ℕ → Type 0
@@ -34,9 +38,34 @@ lengths-small row s = every-imp (λ l. l ≤ maxLength) (λ l. l ≤ maxField) r
 pub vertices-small : (n : ℕ) (vertices : List ℕ) → n ≤ maxField → judgeVertices n vertices ≡ 0 → Small vertices
 vertices-small n vertices few j = every-imp (λ v. (1 ≤ v) × (v ≤ n)) (λ v. v ≤ maxField) vertices (λ v k. omega arith) (vertices-in n vertices j)
 
+-- those that were read
+module _ (field : FieldReading) (same : Reads field) where
+  fields-small : (text : List ℕ) (at k : ℕ) (xs : List ℕ) → readFields field text at k ≡ value xs → Small xs
+  unfolding readFields
+  fields-small text at zero xs e = rw (← value-same [] xs e) tt
+  fields-small text at (suc k) xs e =
+      let a = bind-value (readField field text at) _ xs e in
+      let b = bind-value (readFields field text (at + fieldBytes) k) _ xs (a .2) in
+      let x = a .0 in
+      let is : (fieldAt text at) .value ≡ x = ap (λ (f : FieldAnswer). f .value) (sym (same text at) ∙ field-value field text at x (a .1)) in
+      rw (← value-same (x ∷ b .0) xs (b .2)) (omega (arith, field-bound text at), fields-small text (at + fieldBytes) k (b .0) (b .1))
+
+  pub line-small : (text : List ℕ) (at k : ℕ) (xs : List ℕ) → readLine field text at k ≡ value xs → Small xs
+  unfolding readLine
+  line-small text at k xs e =
+      let a = bind-value (readFields field text at k) _ xs e in
+      let b = bind-value (require (judgeLineEnd text (at + fieldBytes * k))) _ xs (a .2) in
+      rw (← value-same (a .0) xs (b .2)) (fields-small text at k (a .0) (a .1))
+
 -- the text behind bytes that stand at a place
 behind : (text : List ℕ) (at k : ℕ) (bytes rest : List ℕ) → length bytes ≡ k → drop at text ≡ bytes ++ rest → drop (at + k) text ≡ rest
 behind text at k bytes rest l h = sym (drop-drop k at text) ∙ rw h (drop-at bytes rest k l)
+
+-- the first of them
+byte-here : (text : List ℕ) (at : ℕ) (bytes : List ℕ) → drop at text ≡ bytes → getD text at 0 ≡ getD bytes 0 0
+byte-here text at bytes h =
+    let z : at + 0 ≡ at = omega arith in
+    rw z at (sym (getD-drop at text 0 0)) ∙ ap (λ (b : List ℕ). getD b 0 0) h
 
 -- ---- fields
 
@@ -71,8 +100,7 @@ module _ (field : FieldReading) (same : Reads field) where
       let f = fields-back text at xs (lineEnd ∷ rest) s here in
       let end = at + fieldBytes * k in
       let last : drop end text ≡ lineEnd ∷ rest = rw l at (f .1) in
-      let z : end + 0 ≡ end = omega arith in
-      let byte : getD text end 0 ≡ lineEnd = rw z at (sym (getD-drop end text 0 0)) ∙ ap (λ (b : List ℕ). getD b 0 0) last in
+      let byte : getD text end 0 ≡ lineEnd = byte-here text end (lineEnd ∷ rest) last in
       let y : at + lineBytes k ≡ end + 1 = omega arith in
       let first : readFields field text at k ≡ value xs = rw l at (f .0) in
       (rw (first, eq-eqb _ _ byte), rw y (behind text end 1 (lineEnd ∷ []) rest refl last))
@@ -131,30 +159,72 @@ pieces-back text n at (q ∷ qs) rest few s h =
     let z : at + (pieceBytes q + total (map pieceBytes qs)) ≡ at + pieceBytes q + total (map pieceBytes qs) = omega arith in
     (rw (one .0, more .0), rw z (more .1))
 
--- ---- the whole text
+-- ---- the question line
+
+-- behind the source stands a line's end, or a field, which begins with another byte
+size-back : (text : List ℕ) (at source : ℕ) (target : Option ℕ) → Small (questionFields source target) → drop at text ≡ writtenLine (questionFields source target)
+    → questionSize text at ≡ length (questionFields source target)
+unfolding questionFields questionSize judgeLineEnd writtenLine flatMap
+size-back text at source none s h =
+    let next = behind text at fieldBytes (writtenField source) (lineEnd ∷ []) (length-written source (s .0)) (h ∙ simp append-assoc) in
+    let byte : getD text (at + fieldBytes) 0 ≡ lineEnd = byte-here text (at + fieldBytes) (lineEnd ∷ []) next in
+    rw (eq-eqb _ _ byte)
+size-back text at source (some target) s h =
+    let rest = writtenField target ++ (lineEnd ∷ []) in
+    let next = behind text at fieldBytes (writtenField source) rest (length-written source (s .0)) (h ∙ simp append-assoc) in
+    let byte : getD text (at + fieldBytes) 0 ≡ getD rest 0 0 = byte-here text (at + fieldBytes) rest next in
+    rw (byte, ne-eqb _ _ (field-begins target (lineEnd ∷ []) (s .1 .0)))
+
+asked-small : (n source : ℕ) (target : Option ℕ) → n ≤ maxField → judgeSource n source ≡ 0 → judgeAsked n target ≡ 0 → Small (questionFields source target)
+unfolding questionFields judgeAsked
+asked-small n source none few s t = (omega (arith, source-in n source s .1), tt)
+asked-small n source (some target) few s t = (omega (arith, source-in n source s .1), (omega (arith, target-in n target t .1), tt))
+
+asked-fields : (source : ℕ) (target : Option ℕ) → questionOf (questionFields source target) ≡ record { source = source; target = target }
+unfolding questionFields questionOf targetIn
+asked-fields source none = refl
+asked-fields source (some target) = refl
 
 -- nothing stands behind the last byte
-end-back : (text : List ℕ) (at k : ℕ) (bytes : List ℕ) → length bytes ≡ suc k → drop at text ≡ bytes → judgeEnd text (at + suc k) ≡ 0
+end-back : (text : List ℕ) (at k : ℕ) → 0 < k → length (drop at text) ≡ k → judgeEnd text (at + k) ≡ 0
 unfolding judgeEnd
-end-back text at k bytes l h =
-    let long : length text - at ≡ suc k = sym (length-drop at text) ∙ ap length h ∙ l in
-    rw (eq-eqb (length text) (at + suc k) (omega arith))
+end-back text at k positive l =
+    let long : length text - at ≡ k = sym (length-drop at text) ∙ l in
+    rw (eq-eqb (length text) (at + k) (omega arith))
 
-question-long : (x : ℕ) → x ≤ maxField → length (writtenLine (x ∷ [])) ≡ lineBytes 1
-unfolding writtenLine flatMap
-question-long x s = simp (length-append) (omega (arith, length-written x s))
+fields-long : (xs : List ℕ) → Small xs → length (flatMap writtenField xs) ≡ fieldBytes * length xs
+unfolding flatMap
+fields-long [] s = refl
+fields-long (x ∷ xs) s = length-append (writtenField x) (flatMap writtenField xs) ∙ rw (length-written x (s .0), fields-long xs (s .1)) (omega arith)
 
-body-back : (text : List ℕ) (plan : Plan) → SoundPlan plan → drop (lineBytes 2) text ≡ flatMap writtenPiece (plan .pieces) ++ writtenLine (plan .source ∷ [])
+line-long : (xs : List ℕ) → Small xs → length (writtenLine xs) ≡ lineBytes (length xs)
+unfolding writtenLine
+line-long xs s = length-append (flatMap writtenField xs) (lineEnd ∷ []) ∙ rw (fields-long xs s)
+
+pub question-back : (text : List ℕ) (n at source : ℕ) (target : Option ℕ) → n ≤ maxField → judgeSource n source ≡ 0 → judgeAsked n target ≡ 0
+    → drop at text ≡ writtenLine (questionFields source target) → readQuestion text n at ≡ value (record { source = source; target = target })
+unfolding readQuestion
+question-back text n at source target few s t h =
+    let fields = questionFields source target in
+    let small = asked-small n source target few s t in
+    let size : questionSize text at ≡ length fields = size-back text at source target small h in
+    let line = line-back fieldAt (λ _ _. refl) text at fields [] (length fields) refl small (h ∙ sym (append-nil (writtenLine fields))) in
+    let end = end-back text at (lineBytes (length fields)) (omega arith) (ap length h ∙ line-long fields small) in
+    rw (size, line .0, asked-fields source target, s, t, end)
+
+-- ---- the whole text
+
+body-back : (text : List ℕ) (plan : Plan) → SoundPlan plan
+    → drop (lineBytes 2) text ≡ flatMap writtenPiece (plan .pieces) ++ writtenLine (questionFields (plan .source) (plan .target))
     → readBody text (plan .n) (length (plan .pieces)) ≡ value plan
 unfolding readBody
 body-back text plan s h =
     let few = bounds-in (plan .n) (length (plan .pieces)) (s .bounds) .0 in
-    let small : plan .source ≤ maxField = omega (arith, source-in (plan .n) (plan .source) (s .source-in) .1) in
-    let pieces = pieces-back text (plan .n) (lineBytes 2) (plan .pieces) (writtenLine (plan .source ∷ [])) (omega arith) (s .each) h in
+    let last = writtenLine (questionFields (plan .source) (plan .target)) in
+    let pieces = pieces-back text (plan .n) (lineBytes 2) (plan .pieces) last (omega arith) (s .each) h in
     let at = lineBytes 2 + total (map pieceBytes (plan .pieces)) in
-    let line = line-back fieldAt (λ _ _. refl) text at (plan .source ∷ []) [] 1 refl (small, tt) (pieces .1 ∙ sym (append-nil (writtenLine (plan .source ∷ [])))) in
-    let end = end-back text at 6 (writtenLine (plan .source ∷ [])) (question-long (plan .source) small) (pieces .1) in
-    rw (s .bounds, pieces .0, line .0, s .source-in, end)
+    let question = question-back text (plan .n) at (plan .source) (plan .target) (omega arith) (s .source-in) (s .target-in) (pieces .1) in
+    rw (s .bounds, pieces .0, question)
 
 pub text-back : (plan : Plan) → SoundPlan plan → readPlan (written plan) ≡ value plan
 unfolding readPlan written
@@ -162,6 +232,6 @@ text-back plan s =
     let n = plan .n in
     let p = length (plan .pieces) in
     let few = bounds-in n p (s .bounds) in
-    let rest = flatMap writtenPiece (plan .pieces) ++ writtenLine (plan .source ∷ []) in
+    let rest = flatMap writtenPiece (plan .pieces) ++ writtenLine (questionFields (plan .source) (plan .target)) in
     let line = line-back fieldAt (λ _ _. refl) (writtenLine (n ∷ p ∷ []) ++ rest) 0 (n ∷ p ∷ []) rest 2 refl (omega (arith, few .0), (omega (arith, few .1), tt)) refl in
     rw (line .0) (body-back (writtenLine (n ∷ p ∷ []) ++ rest) plan s (line .1))

@@ -1,7 +1,9 @@
 -- From a text that was read to its lines, and to a plan that no cause turns away: part of `accepted-exactly` in the file Text.
 --   Stands                    bytes from a place of the text on, and the rest of the text behind them
 --   field-at .. line-written  fields and lines that were read stand there as they are written
---   rows-read .. body-read    so do rows, pieces and all that follows the first line, and they have been judged
+--   rows-read .. pieces-read  so do rows and pieces, and they have been judged
+--   question-size question-read   so does the question line, of one field or two, with nothing behind it
+--   body-read                 so does all that follows the first line
 --   text-read                 the whole text
 use mathlib.Core.Path.{_≡_, refl, sym, ap, _∙_, subst}
 use mathlib.Core.List.{List, [], _∷_, _++_, map, flatMap, append-assoc, append-nil}
@@ -17,8 +19,8 @@ use Rattle.definitions.specs.Lists.{Every, total, firstCause}
 use Rattle.definitions.specs.Network.{Piece, sizeOf}
 use Rattle.definitions.specs.Judgement.{judgeBounds, judgeSize, judgeVertices, judgeRow, judgeRows, judgeBlocks, judgePiece, judgeSource}
 use Rattle.definitions.specs.Fields.{lineEnd, fieldBytes, FieldAnswer, aField, noField, fieldAt, lengthAt, decimal, rightJustified}
-use Rattle.definitions.specs.Reading.{FieldReading, value, require, readField, readFields, judgeLineEnd, readLine, lineBytes, readRows, readPiece, pieceBytes, readPieces, Plan, judgeEnd, readBody, readPlan}
-use Rattle.definitions.specs.Written.{writtenField, writtenLine, writtenPiece, written, SoundPiece, SoundPlan}
+use Rattle.definitions.specs.Reading.{FieldReading, value, require, readField, readFields, judgeLineEnd, readLine, lineBytes, readRows, readPiece, pieceBytes, readPieces, judgeEnd, Question, targetIn, questionOf, questionSize, judgeAsked, readQuestion, Plan, readBody, readPlan}
+use Rattle.definitions.specs.Written.{writtenField, writtenLine, writtenPiece, questionFields, written, SoundPiece, SoundPlan}
 use Rattle.definitions.specs.Laws.ReadLaws.{value-same, bind-value, require-value, field-value, line-length}
 use Rattle.definitions.specs.Laws.FieldProofs.{field-written}
 
@@ -221,19 +223,7 @@ pieces-read text n at (suc p) qs e =
     subst (PiecesRead text n at (suc p)) (value-same (q ∷ b .0) qs (b .2))
     (piece-more text n at p q (b .0) (piece-read text n at q (a .1)) (pieces-read text n (at + pieceBytes q) p (b .0) (b .1)))
 
--- ---- the whole text
-
--- a list of one, of two
-one-number : (xs : List ℕ) → length xs ≡ 1 → xs ≡ getD xs 0 0 ∷ []
-one-number [] h = absurd (omega arith)
-one-number (x ∷ []) h = refl
-one-number (x ∷ y ∷ ys) h = absurd (omega arith)
-
-pub two-numbers : (xs : List ℕ) → length xs ≡ 2 → xs ≡ getD xs 0 0 ∷ getD xs 1 0 ∷ []
-two-numbers [] h = absurd (omega arith)
-two-numbers (x ∷ []) h = absurd (omega arith)
-two-numbers (x ∷ y ∷ []) h = refl
-two-numbers (x ∷ y ∷ z ∷ zs) h = absurd (omega arith)
+-- ---- the question line
 
 at-end : (text : List ℕ) (at : ℕ) → judgeEnd text at ≡ 0 → drop at text ≡ []
 unfolding judgeEnd
@@ -243,11 +233,63 @@ at-end text at e = go (truth (eqb (length text) at))
     go (holds t) = drop-of-length-le text {i = at} (omega (arith, eqb-true (length text) at t))
     go (fails t) = let bad : _≡_ {A = ℕ} 3 0 = simp t at e in absurd (omega arith)
 
+-- one field or two
+pub question-size : (text : List ℕ) (at : ℕ) → (1 ≤ questionSize text at) × (questionSize text at ≤ 2)
+unfolding questionSize
+question-size text at = go (truth (eqb (judgeLineEnd text (at + fieldBytes)) 0))
+  where
+    go : Truth (eqb (judgeLineEnd text (at + fieldBytes)) 0) → (1 ≤ questionSize text at) × (questionSize text at ≤ 2)
+    go (holds t) = rw t (omega arith, omega arith)
+    go (fails t) = rw t (omega arith, omega arith)
+
+-- one field, or two, are those of the question that they ask
+fields-asked : (xs : List ℕ) → 1 ≤ length xs → length xs ≤ 2 → questionFields (questionOf xs .source) (questionOf xs .target) ≡ xs
+unfolding questionFields questionOf targetIn
+fields-asked [] l u = absurd (omega arith)
+fields-asked (x ∷ []) l u = refl
+fields-asked (x ∷ y ∷ []) l u = refl
+fields-asked (x ∷ y ∷ z ∷ zs) l u = absurd (omega arith)
+
+-- it is the last line, and its source and its target have been judged
+pub record QuestionRead (text : List ℕ) (n at : ℕ) (q : Question) : Type 0 where
+  pub line : drop at text ≡ writtenLine (questionFields (q .source) (q .target))
+  pub source-in : judgeSource n (q .source) ≡ 0
+  pub target-in : judgeAsked n (q .target) ≡ 0
+
+pub question-read : (text : List ℕ) (n at : ℕ) (q : Question) → readQuestion text n at ≡ value q → QuestionRead text n at q
+unfolding readQuestion
+question-read text n at q e =
+    let k = questionSize text at in
+    let a = bind-value (readLine fieldAt text at k) _ q e in
+    let fields = a .0 in
+    let asked = questionOf fields in
+    let b = bind-value (require (judgeSource n (asked .source))) _ q (a .2) in
+    let c = bind-value (require (judgeAsked n (asked .target))) _ q (b .2) in
+    let d = bind-value (require (judgeEnd text (at + lineBytes k))) _ q (c .2) in
+    let long : length fields ≡ k = line-length fieldAt text at k fields (a .1) in
+    let size = question-size text at in
+    let same : questionFields (asked .source) (asked .target) ≡ fields = fields-asked fields (omega (arith, size .0)) (omega (arith, size .1)) in
+    let line : drop at text ≡ writtenLine fields ++ drop (at + lineBytes k) text = line-written fieldAt (λ t i. refl) text at k fields (a .1) in
+    let end : drop (at + lineBytes k) text ≡ [] = at-end text (at + lineBytes k) (require-value (judgeEnd text (at + lineBytes k)) (d .0) (d .1)) in
+    subst (QuestionRead text n at) (value-same asked q (d .2)) (record {
+      line = line ∙ rw end (append-nil (writtenLine fields) ∙ ap writtenLine (sym same));
+      source-in = require-value (judgeSource n (asked .source)) (b .0) (b .1);
+      target-in = require-value (judgeAsked n (asked .target)) (c .0) (c .1);
+    })
+
+-- ---- the whole text
+
+pub two-numbers : (xs : List ℕ) → length xs ≡ 2 → xs ≡ getD xs 0 0 ∷ getD xs 1 0 ∷ []
+two-numbers [] h = absurd (omega arith)
+two-numbers (x ∷ []) h = absurd (omega arith)
+two-numbers (x ∷ y ∷ []) h = refl
+two-numbers (x ∷ y ∷ z ∷ zs) h = absurd (omega arith)
+
 -- behind the line of n and p
 record BodyRead (text : List ℕ) (n p : ℕ) (plan : Plan) : Type 0 where
   n-is : plan .n ≡ n
   p-is : length (plan .pieces) ≡ p
-  rest : drop (lineBytes 2) text ≡ flatMap writtenPiece (plan .pieces) ++ writtenLine (plan .source ∷ [])
+  rest : drop (lineBytes 2) text ≡ flatMap writtenPiece (plan .pieces) ++ writtenLine (questionFields (plan .source) (plan .target))
   sound : SoundPlan plan
 
 body-read : (text : List ℕ) (n p : ℕ) (plan : Plan) → readBody text n p ≡ value plan → BodyRead text n p plan
@@ -257,25 +299,20 @@ body-read text n p plan e =
     let b = bind-value (readPieces text n (lineBytes 2) p) _ plan (a .2) in
     let qs = b .0 in
     let at = lineBytes 2 + total (map pieceBytes qs) in
-    let c = bind-value (readLine fieldAt text at 1) _ plan (b .2) in
+    let c = bind-value (readQuestion text n at) _ plan (b .2) in
     let question = c .0 in
-    let source = getD question 0 0 in
-    let d = bind-value (require (judgeSource n source)) _ plan (c .2) in
-    let f = bind-value (require (judgeEnd text (at + lineBytes 1))) _ plan (d .2) in
     let r = pieces-read text n (lineBytes 2) p qs (b .1) in
-    let one : question ≡ source ∷ [] = one-number question (line-length fieldAt text at 1 question (c .1)) in
-    let line : drop at text ≡ writtenLine question ++ drop (at + lineBytes 1) text = line-written fieldAt (λ t i. refl) text at 1 question (c .1) in
-    let end : drop (at + lineBytes 1) text ≡ [] = at-end text (at + lineBytes 1) (require-value (judgeEnd text (at + lineBytes 1)) (f .0) (f .1)) in
-    let last : drop at text ≡ writtenLine (source ∷ []) = line ∙ rw end (append-nil (writtenLine question) ∙ ap writtenLine one) in
-    let same : record { n = n; pieces = qs; source = source } ≡ plan = value-same _ plan (f .2) in
+    let asked = question-read text n at question (c .1) in
+    let same : record { n = n; pieces = qs; source = question .source; target = question .target } ≡ plan = value-same _ plan (c .2) in
     subst (BodyRead text n p) same (record {
       n-is = refl;
       p-is = r .count;
-      rest = r .stands ∙ ap (λ (l : List ℕ). flatMap writtenPiece qs ++ l) last;
+      rest = r .stands ∙ ap (λ (l : List ℕ). flatMap writtenPiece qs ++ l) (asked .line);
       sound = record {
         bounds = subst (λ (k : ℕ). judgeBounds n k ≡ 0) (sym (r .count)) (require-value (judgeBounds n p) (a .0) (a .1));
         each = r .each;
-        source-in = require-value (judgeSource n source) (d .0) (d .1);
+        source-in = asked .source-in;
+        target-in = asked .target-in;
       };
     })
 

@@ -3,17 +3,21 @@
 --   value-never then-never               what is never refused by a number
 --   require-is cause-never               a cause is refused by its own number and no other
 --   field-never line-never               a field and a line are refused by no number above 3
+--   question-never                       a question line is refused by 3, 8 and 12 alone
 use mathlib.Core.Path.{_≡_, refl, sym, ap, _∙_}
 use mathlib.Core.Bool.{Bool, true, false, cond}
 use mathlib.Core.List.{List, [], _∷_}
+use mathlib.Core.Option.{Option, none, some}
 use mathlib.Core.Logic.{_≢_, _⊎_, inl, inr}
 use Prim.Native.Nat.{ℕ, zero, suc, _+_, _*_, _<_}
 use native.Mathlib.Omega.{arith}
 use lib.Dec.{eqb, leb}
 use lib.ListN.{getD, length, take, drop}
 use Rattle.logic.specs.Tests.{Truth, holds, fails, truth}
+use Rattle.definitions.specs.Lists.{within}
+use Rattle.definitions.specs.Judgement.{judgeSource, judgeTarget}
 use Rattle.definitions.specs.Fields.{lineEnd, fieldBytes, FieldAnswer, skipBlanks, isNumeral, fieldOf, fieldAt}
-use Rattle.definitions.specs.Reading.{FieldReading, Read, refused, value, _>>=_, require, readField, readFields, judgeLineEnd, readLine}
+use Rattle.definitions.specs.Reading.{FieldReading, Read, refused, value, _>>=_, require, readField, readFields, judgeLineEnd, readLine, lineBytes, judgeEnd, questionOf, questionSize, judgeAsked, readQuestion}
 use Rattle.definitions.specs.Laws.LineProofs.{Reads}
 
 -- not refused by the number k
@@ -94,3 +98,19 @@ module _ (field : FieldReading) (same : Reads field) (k : ℕ) (h : 3 < k) where
   line-never text at m =
       then-never k (readFields field text at m) _ (fields-never text at m)
       (λ xs. then-never k (require (judgeLineEnd text (at + fieldBytes * m))) _ (cause-never k (eqb (getD text (at + fieldBytes * m) 0) lineEnd) 3 (λ z. omega arith)) (λ _. value-never k xs))
+
+-- ---- the question line
+
+asked-never : (k n : ℕ) (target : Option ℕ) → k ≢ 12 → Never k (require (judgeAsked n target))
+unfolding judgeAsked judgeTarget
+asked-never k n none h = value-never k tt
+asked-never k n (some target) h = cause-never k (within n target) 12 (λ z. h (sym z))
+
+pub question-never : (k : ℕ) → 3 < k → k ≢ 8 → k ≢ 12 → (text : List ℕ) (n at : ℕ) → Never k (readQuestion text n at)
+unfolding readQuestion judgeSource judgeEnd
+question-never k h eight twelve text n at =
+    let size = questionSize text at in
+    then-never k (readLine fieldAt text at size) _ (line-never fieldAt (λ t i. refl) k h text at size)
+    (λ fields. then-never k (require (judgeSource n (questionOf fields .source))) _ (cause-never k (within n (questionOf fields .source)) 8 (λ z. eight (sym z)))
+    (λ _. then-never k (require (judgeAsked n (questionOf fields .target))) _ (asked-never k n (questionOf fields .target) twelve)
+    (λ _. then-never k (require (judgeEnd text (at + lineBytes size))) _ (cause-never k (eqb (length text) (at + lineBytes size)) 3 (λ z. omega arith)) (λ _. value-never k (questionOf fields)))))

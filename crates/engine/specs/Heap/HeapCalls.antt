@@ -6,7 +6,7 @@
 --   activated-first                  the first row gets it
 --   PutWonNeeds PutWonLeaves won-needs    the columns that are won get the row's interval
 --   activated-none activated-some    nothing is won; columns are won
---   MinExtracted ExtractMinLeaves extracted-..    an extraction, from a given model; from any
+--   removedBy ParentIs MinExtracted ExtractMinLeaves extracted-..    an extraction, from a given model; from any
 use mathlib.Core.Path.{_≡_, refl, sym, ap, _∙_}
 use mathlib.Core.Bool.{false}
 use mathlib.Core.List.{List, [], _∷_, _++_, map}
@@ -22,8 +22,8 @@ use Rattle.definitions.specs.Best.{Best, nobody, by, lesser, least, leastFrom}
 use Rattle.definitions.specs.Intervals.{interval, isKept, countNew}
 use Rattle.definitions.specs.Model.{Activation, Model, available, isActivated, activate, extract, extractionOf, answerOf, intervals, leastLeft, Listed, bestIn, Reached}
 use Rattle.definitions.specs.Laws.LeastLaws.{least-lowest}
-use Rattle.definitions.specs.Labelling.{activation, extraction}
-use Rattle.definitions.specs.HeapWords.{countWord, markWord, headWords, heapWords, countOf, markOf, bestColumnAt, bestSumAt, intervalAt, span, kept, bestAt, listedAt}
+use Rattle.definitions.specs.Labelling.{activation, extraction, placeIn}
+use Rattle.definitions.specs.HeapWords.{countWord, markWord, headWords, heapWords, countOf, markOf, parentAt, bestColumnAt, bestSumAt, intervalAt, span, kept, bestAt, listedAt}
 use Rattle.definitions.specs.HeldModel.{lentEntry, mark, Holds}
 use Rattle.definitions.specs.Laws.RunProofs.{tag, runs-length}
 use Rattle.definitions.specs.declared.Extraction.{Extraction}
@@ -45,10 +45,11 @@ use Rattle.engine.specs.Heap.Clear.{countAfter, Meets, Room, Cleared, Cu
 use Rattle.engine.specs.Heap.RowBest.{StretchFits, drawn, RowBest, drawn-best, best-moves}
 use Rattle.engine.specs.Heap.Laid.{In, Laid}
 use Rattle.engine.specs.Heap.Search.{wins, SearchLeaves}
-use Rattle.engine.specs.Heap.Holds.{all-pairs, sound-of, run-at, count-most, sum-fits, Where, within, outside, where-is, bests-from-rows, laid, wins-is}
+use Rattle.engine.specs.Heap.Holds.{all-pairs, sound-of, run-at, count-most, owned, sum-fits, Where, within, outside, where-is, bests-from-rows, laid, wins-is}
 use Rattle.engine.specs.declared.heap.Lowest.the-variants as lowest
 use Rattle.engine.specs.declared.heap.Lowest.the-variants.{At}
 use Rattle.engine.specs.declared.heap.Activated.{Activated}
+use Rattle.engine.specs.declared.heap.Extracted.{Extracted}
 use Rattle.engine.specs.Heap.LeastColumn.{LeastLeaves, least-is-left}
 use Rattle.engine.specs.Heap.Cuts.{cut-lengths, clear-trims, clear-kept, cut-kept, cut-trims, span-put}
 
@@ -365,14 +366,25 @@ module _ (w : List ℕ) (rows : List (List ℕ)) (col0 cols : ℕ) (labels : Lis
 
 -- ---- an extraction
 
--- the column found is extracted and answered
-pub record MinExtracted (u : List ℕ) (rows : List (List ℕ)) (col0 cols : ℕ) (labels : List ℕ) (m : Model) (answer : Extraction) (inserted removed : ℕ) : Type 0 where
-  pub changed : Becomes u rows col0 cols labels m (extract m (leastFrom (available (lentEntry rows col0) m) 0 cols)) inserted removed
-  pub answer-is : answerOf answer ≡ extractionOf (leastFrom (available (lentEntry rows col0) m) 0 cols)
+-- one interval is removed where a column is handed out
+abbrev pub removedBy : Extraction → ℕ
+removedBy (Column c s) = 1
+removedBy Nothing = 0
 
-abbrev pub ExtractMinLeaves : List ℕ → List ℕ → List (List ℕ) → ℕ → List ℕ → Extraction → ℕ → ℕ → Type 0
-ExtractMinLeaves w u rows col0 labels answer inserted removed =
-    (cols : ℕ) (m : Model) → Holds w rows col0 cols labels m → MinExtracted u rows col0 cols labels m answer inserted removed
+-- p, one of so many rows, is the parent of the column that is handed out; 0 where there is none
+abbrev pub ParentIs : (ℕ → Best) → ℕ → Extraction → ℕ → Type 0
+ParentIs parents rows (Column c s) p = (placeIn (parents c) ≡ p) × (p < rows)
+ParentIs parents rows Nothing p = p ≡ 0
+
+-- the column found is extracted and answered
+pub record MinExtracted (u : List ℕ) (rows : List (List ℕ)) (col0 cols : ℕ) (labels : List ℕ) (m : Model) (answer : Extraction) (inserted parent : ℕ) : Type 0 where
+  pub changed : Becomes u rows col0 cols labels m (extract m (leastFrom (available (lentEntry rows col0) m) 0 cols)) inserted (removedBy answer)
+  pub answer-is : answerOf answer ≡ extractionOf (leastFrom (available (lentEntry rows col0) m) 0 cols)
+  pub parent-is : ParentIs (available (lentEntry rows col0) m) (length rows) answer parent
+
+abbrev pub ExtractMinLeaves : List ℕ → List ℕ → List (List ℕ) → ℕ → List ℕ → Extracted → Type 0
+ExtractMinLeaves w u rows col0 labels r =
+    (cols : ℕ) (m : Model) → Holds w rows col0 cols labels m → MinExtracted u rows col0 cols labels m (r .answer) (r .inserted) (r .parent)
 
 module _ (w : List ℕ) (rows : List (List ℕ)) (col0 cols : ℕ) (labels : List ℕ) (m : Model) (h : Holds w rows col0 cols labels m) where
   pub extracted-none : LeastLeaves w lowest.Nothing → MinExtracted w rows col0 cols labels m Nothing 0 0
@@ -382,6 +394,7 @@ module _ (w : List ℕ) (rows : List (List ℕ)) (col0 cols : ℕ) (labels : Lis
       record {
         changed = rw (← q) (becomes w w rows col0 cols labels m h m refl (h .marked) (h .listed) (h .labels-at) (h .reached) (laid w rows col0 cols labels m h .bests) 0 0 (sym (countNew-same (intervals (lentEntry rows col0) cols m))) refl);
         answer-is = rw (← q);
+        parent-is = refl;
       }
 
   module _ (k c : ℕ) (l : k < countOf w) (i : In w k c) where
@@ -409,10 +422,11 @@ module _ (w : List ℕ) (rows : List (List ℕ)) (col0 cols : ℕ) (labels : Lis
       pub extracted-needs : CutNeeds w rows col0 labels k c
       extracted-needs = record { laid = laid w rows col0 cols labels m h; inside = l; low = i .0; high = i .1; room = extracted-room }
 
-      pub extracted-some : LeastLeaves w (At k c s) → (u : List ℕ) (rests : ℕ) → CutLeaves w u rows col0 labels k c rests
-          → MinExtracted u rows col0 cols labels m (Column c s) rests 1
-      unfolding extract
-      extracted-some g u rests x =
+      pub extracted-some : LeastLeaves w (At k c s) → (u : List ℕ) (rests p : ℕ) → CutLeaves w u rows col0 labels k c rests → p ≡ parentAt w k
+          → MinExtracted u rows col0 cols labels m (Column c s) rests p
+      unfolding extract placeIn
+      extracted-some g u rests p x parent =
+          let o = owned w rows col0 cols labels m h k c l i in
           let q : by c s ≡ leastFrom (available (lentEntry rows col0) m) 0 cols = least-is-left w rows col0 cols labels m h (At k c s) g in
           let e = laid w rows col0 cols labels m h in
           let z : c + 1 ≡ suc c = omega arith in
@@ -425,4 +439,5 @@ module _ (w : List ℕ) (rows : List (List ℕ)) (col0 cols : ℕ) (labels : Lis
             changed = rw (← q) (becomes w u rows col0 cols labels m h (extract m (by c s)) (x .long) (x .marked ∙ h .marked) listed (h .labels-at) reached (x .bests) rests 1
                 (trims ∙ sym (extract-inserted (lentEntry rows col0) cols m c s (omega (arith, run-at w rows col0 cols labels m h k l .high)))) (omega (arith, x .counted)));
             answer-is = rw (← q);
+            parent-is = (rw (o .1) (sym parent), omega (arith, o .2 .row-in));
           }

@@ -1,5 +1,5 @@
 -- A call on the heap of one block is a call on its model, and the tournament follows its least sum.
---   accepted-is                              an activation that is not refused
+--   accepted-is answered-in                  an activation that is not refused; a column that is handed out
 --   played-after                             the tournament with a new key
 --   played-lower played-same                 after an activation: the lesser of two keys; the same one
 --   number-in block-same                     the blocks of the states
@@ -14,24 +14,26 @@ use lib.ListN.{getD, length, set, take, drop, length-map, List·getD-map}
 use lib.Seq.{getD-take, getD-drop, getD-set-same, getD-set-other, map-set-same}
 use Rattle.definitions.specs.HeldModel.{lentEntry, Holds}
 use Rattle.definitions.specs.declared.Extraction.{Extraction}
+use Rattle.definitions.specs.declared.Extraction.the-variants.{Column, Nothing}
 use Rattle.definitions.specs.Limits.{below}
 use Rattle.definitions.specs.Network.{Rectangle}
 use Rattle.definitions.specs.Blocks.{Block, noBlock}
 use Rattle.definitions.specs.Best.{Best, nobody, by, lesser, leastFrom}
-use Rattle.definitions.specs.Model.{Model, available, judge, activate, extract, extractionOf, Call, Trace, extend}
+use Rattle.definitions.specs.Model.{Model, available, judge, activate, extract, extractionOf, Answer, answerOf, Call, Trace, extend}
 use Rattle.definitions.specs.Labelling.{BlockState, noBlockState, activation, extraction, apply, leastOf}
+use Rattle.definitions.specs.Laws.LeastLaws.{least-lowest}
 use Rattle.logic.specs.Tests.{Order, less, more, order, Equal, equal, differ, equality}
 use Rattle.heap_laws.specs.Sound.{Sound}
 use Rattle.heap_laws.specs.Bests.{SameSum}
 use Rattle.heap_laws.specs.ModelCalls.{Activates, Cases, activates, extracts, refuses, cases, step-activate, step-extract}
-use Rattle.heap_laws.specs.Agree.{leastFrom-agree, extend-agree}
+use Rattle.heap_laws.specs.Agree.{available-agree, leastFrom-agree, extend-agree}
 use Rattle.preparation.specs.Prepared.{rowIn, colIn, colsIn, rowCountIn}
 use Rattle.engine.specs.declared.heap.Lowest as code
 use Rattle.engine.specs.declared.heap.Activated.{Activated}
 use Rattle.engine.specs.declared.blocks.Numbers.{Numbers}
 use Rattle.engine.specs.Heap.Holds.{sound-of}
 use Rattle.engine.specs.Heap.LeastColumn.{LeastLeaves, bestOf, least-is-left}
-use Rattle.engine.specs.Heap.HeapCalls.{Becomes, ActivateGiven, Falls, RowActivated, MinExtracted}
+use Rattle.engine.specs.Heap.HeapCalls.{Becomes, ActivateGiven, Falls, RowActivated, removedBy, ParentIs, MinExtracted}
 use Rattle.engine.specs.Tree.TreeWords.{leaves, Key, keyAt, IsTournament, KeyChanged}
 use Rattle.engine.specs.Labeller.State.{Heaps, withWords, heapIn, windowIn, labelsIn, labelAt, numbersIn, BlockLies, HoldsBlock, HoldsBlocks, bests, callAt, CallDone, ExtractionDone, HeapActivated}
 use Rattle.engine.specs.Labeller.LentHeaps.{replaced, window-long, lent-heap, lent-rows, lent-labels, back-here, back-other, back-long}
@@ -44,6 +46,14 @@ accepted-is rows m r v h = go (cases rows m (activation r v))
     go (activates a) = a
     go (extracts q) = absurd (omega arith)
     go (refuses n) = absurd (n h)
+
+-- a column that an extraction hands out is one of those that it looks at
+answered-in : (w : ℕ → Best) (cols c s : ℕ) → answerOf (Column c s) ≡ extractionOf (leastFrom w 0 cols) → c < cols
+answered-in w cols c s a = go (leastFrom w 0 cols) refl
+  where
+    go : (x : Best) → leastFrom w 0 cols ≡ x → c < cols
+    go nobody q = absurd (omega (arith, ap (λ (y : Answer). y .code) (a ∙ ap extractionOf q)))
+    go (by d t) q = omega (arith, ap (λ (y : Answer). y .column) (a ∙ ap extractionOf q), least-lowest w 0 cols d t q .high)
 
 -- the key of the lesser of two
 key-lesser : (b : ℕ) → b < leaves → (z z′ : Best) (c t x y : ℕ) → Key b z y → Key b (by c t) x → SameSum z′ (lesser z (by c t)) → Key b z′ (min y x)
@@ -145,6 +155,14 @@ module _ {h : Heaps} {bs : List Block} {ss : List BlockState} (held : HoldsBlock
     unfolding leastOf
     least-is = least-with model (sound-of (held .each b l))
 
+    -- the parent of the column that is handed out
+    parent-same : (answer : Extraction) (p : ℕ) → answerOf answer ≡ extractionOf (leastFrom (available e model) 0 cols) → ParentIs (available e model) (length window) answer p
+        → ParentIs (available (state .block .lengths) model) (length (state .block .rows)) answer p
+    parent-same Nothing p a h = h
+    parent-same (Column c s) p a h =
+        let low = answered-in (available e model) cols c s a in
+        (rw (← available-agree e (state .block .lengths) (length window) cols same model (sound-of (held .each b l) .in-rows) c low) (h .0), omega (arith, h .1, tall))
+
     -- the label of row r, in the labels of the block's rows
     label-is : (r : ℕ) → r < length window → getD labels r 0 ≡ label r
     unfolding labelsIn
@@ -214,15 +232,16 @@ module _ {h : Heaps} {bs : List Block} {ss : List BlockState} (held : HoldsBlock
               ∙ rw (sym (ap (λ (t : Trace). t .model) (call-is k)) ∙ q) (ap (λ (n : ℕ). state .trace .inserted + n) (sym (g .inserted-is)));
         }
 
-        pub extracted : (answer : Extraction) (inserted removed : ℕ) → MinExtracted part lentRows (x .col0) (x .cols) lentLabels model answer inserted removed
-            → ExtractionDone (HoldsBlocks after bs) ss b answer inserted
+        pub extracted : (answer : Extraction) (inserted parent : ℕ) → MinExtracted part lentRows (x .col0) (x .cols) lentLabels model answer inserted parent
+            → ExtractionDone (HoldsBlocks after bs) ss b answer inserted parent
         unfolding extend
-        extracted answer inserted removed t =
-            let g : MinExtracted part window col0 cols labels model answer inserted removed = rw (lent-rows held b l x is, lent-labels held b l x is, is) at t in
+        extracted answer inserted parent t =
+            let g : MinExtracted part window col0 cols labels model answer inserted parent = rw (lent-rows held b l x is, lent-labels held b l x is, is) at t in
             record {
-              called = called extraction (extract model (leastFrom (available e model) 0 cols)) inserted removed
+              called = called extraction (extract model (leastFrom (available e model) 0 cols)) inserted (removedBy answer)
                   (ap (λ (t : Trace). t .model) (call-is extraction) ∙ rw (step-extract e (length window) cols model extraction refl)) (g .changed);
               answer-is = g .answer-is ∙ ap extractionOf (sym least-is);
+              parent-is = parent-same answer parent (g .answer-is) (g .parent-is);
             }
 
         pub activated : (r : ℕ) (y : Activated) → judge (length (state .block .rows)) model (activation r (label r)) ≡ 0

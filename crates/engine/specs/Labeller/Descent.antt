@@ -38,7 +38,7 @@ pub record Stands (q : Piece) (first : ℕ) (ss : List BlockState) (v i : ℕ) :
   pub inside : i < sizeOf q
   pub here : getD (q .vertices) i 0 ≡ v
   pub fits : first + 2 * pred (sizeOf q) ≤ length ss
-  pub blocks-are : (j : ℕ) → j < 2 * pred (sizeOf q) → blockIn first ss j .block ≡ blockOf q (getD (windowsOf (sizeOf q)) j noWindow)
+  pub blocks-are : (j : ℕ) → j < 2 * pred (sizeOf q) → blockIn first ss j .block .rows ≡ blockOf 0 q (getD (windowsOf (sizeOf q)) j noWindow) .rows
 
 -- ss before, ss′ on the way: the stretch of k places from `start` on has the place i, its windows are those from number s on, and their blocks
 -- are as they were; v is activated with label l in the other blocks of the piece that have it as a row. So many intervals are inserted.
@@ -76,10 +76,10 @@ module _ (q : Piece) (first v i l : ℕ) (ss : List BlockState) (h : Stands q fi
 
   -- the block at a window of the piece: its row where i is one of the rows, else none
   has-row : (j : ℕ) → j < 2 * pred m → window j .row0 ≤ i → i < window j .row0 + window j .rows → placeOf v 0 (blockIn first ss j .block .rows) ≡ some (i - window j .row0)
-  has-row j r a b = rw (h .blocks-are j r) (row-inside q (window j) (window-inside j r .rows-in) (h .apart) v i (h .inside) (h .here) a b)
+  has-row j r a b = rw (h .blocks-are j r) (row-inside 0 q (window j) (window-inside j r .rows-in) (h .apart) v i (h .inside) (h .here) a b)
 
   no-row : (j : ℕ) → j < 2 * pred m → Misses (window j) i → placeOf v 0 (blockIn first ss j .block .rows) ≡ none
-  no-row j r o = rw (h .blocks-are j r) (row-outside q (window j) (window-inside j r .rows-in) (h .apart) v i (h .inside) (h .here) o)
+  no-row j r o = rw (h .blocks-are j r) (row-outside 0 q (window j) (window-inside j r .rows-in) (h .apart) v i (h .inside) (h .here) o)
 
   module _ (s start k : ℕ) (ss′ : List BlockState) (n : ℕ) (d : Descended q first v i l ss s start k ss′ n) where
     few : s + 2 * pred k ≤ 2 * pred m

@@ -2,8 +2,10 @@
 --   judged-labels judged-network judged-source    the judgement, cause by cause
 --   lengths-are may-begin can-label               what is prepared for an accepted network
 --   refused labelled                              what the entry returns and leaves
+--   LabelArcsLeaves arcs-.. labels-alone          the same where the arcs are kept too; without them
 --   plain                                         the same in plain terms
 use mathlib.Core.Path.{_≡_, refl, sym, ap, _∙_}
+use mathlib.Core.Bool.{cond}
 use mathlib.Core.List.{List, [], _∷_}
 use mathlib.Core.Logic.{⊎-elim, _≢_}
 use Prim.Native.Nat.{ℕ, zero, suc, _+_, _≤_, _<_}
@@ -32,7 +34,8 @@ use Rattle.labelling_laws.specs.LabellingTheorems as theorems
 use Rattle.labelling_laws.specs.LabellingTheorems.{labels-are-distances, held-limited, reached-counts, few-extractions, few-insertions}
 use Rattle.engine.specs.Tree.TreeWords.{treeWords, idle}
 use Rattle.engine.specs.Labeller.Begins.{tablesFor, prepared, freshArrays, begins}
-use Rattle.engine.specs.Labeller.Mapped.{mapped}
+use Rattle.engine.specs.Labeller.Mapped.{traced, mapped}
+use Rattle.engine.specs.Labeller.ArcWords.{lentArc, ArcsHeld}
 use Rattle.engine.specs.Labeller.StepLoop.{store, IsLabelling, LabelAllGiven, LabelAllNeeds}
 
 -- ---- the judgement
@@ -117,31 +120,42 @@ module _ (n p : ℕ) (sizes vertices lengths : List ℕ) (source : ℕ) (buffer 
         vertices-in = buffers .1;
       }
 
-  -- the prepared tables, with heaps of zeros, an idle tournament and a blank label buffer
-  given : LabelAllGiven (record { arrays = freshArrays (tablesFor p sizes vertices lengths); labels = replicate labelPlaces unreached }) source n qs
+  -- the prepared tables, with heaps of zeros, an idle tournament and blank buffers
+  given : LabelAllGiven (lentArc vertices lengths) (record { arrays = freshArrays (tablesFor p sizes vertices lengths); labels = replicate labelPlaces unreached; arcs = replicate labelPlaces 0 }) source n qs
   given = record {
+    traced = traced n p sizes vertices lengths source fits accepted;
     mapped = mapped n p sizes vertices lengths source fits accepted;
     running = begins (tablesFor p sizes vertices lengths) (blocks qs) (prepared n p sizes vertices lengths fits (blocks-fit n qs (suits n qs (accepted .pieces-pass))));
     setting = setting n qs source accepted;
     blank = refl;
+    no-arcs = refl;
   }
 
   -- as the code has them
-  module _ (matrix lent : List (List ℕ)) (numbers zeros words cleared : List ℕ) (rows : length lent ≡ vertexPlaces) (places : length zeros ≡ tableCount)
+  module _ (matrix lent : List (List ℕ)) (numbers zeros words cleared arcs : List ℕ) (long : ℕ) (rows : length lent ≡ vertexPlaces) (places : length zeros ≡ tableCount)
       (a : matrix ≡ filledMatrix lent lengths) (b : numbers ≡ filledTables zeros p sizes vertices)
-      (f : words ≡ replicate (length {A = ℕ} (replicate maxWords 0)) 0) (e : cleared ≡ replicate (length buffer) unreached) where
-    pub may-begin : LabelAllGiven (store matrix numbers (replicate vertexPlaces 0) words (replicate treeWords idle) cleared) source n qs
+      (f : words ≡ replicate (length {A = ℕ} (replicate maxWords 0)) 0) (e : cleared ≡ replicate (length buffer) unreached)
+      (all : long ≡ labelPlaces) (z : arcs ≡ replicate long 0) where
+    pub may-begin : LabelAllGiven (lentArc vertices lengths) (store matrix numbers (replicate vertexPlaces 0) words (replicate treeWords idle) cleared arcs) source n qs
     unfolding filledMatrix filledTables
     may-begin =
         let m : matrix ≡ matrixOf lengths = a ∙ simp (eq-eqb (length lent) vertexPlaces rows, eq-eqb (length lengths) lengthPlaces lengths-are) in
         let t : numbers ≡ tablesOf p sizes vertices = b ∙ simp (eq-eqb (length zeros) tableCount places) in
         let fresh : words ≡ replicate maxWords 0 = f ∙ ap (λ (k : ℕ). replicate k 0) (length-replicate {A = ℕ} maxWords 0) in
-        rw (m, t, fresh, e, buffers .3) given
+        rw (m, t, fresh, e, buffers .3, z, all) given
 
-    pub can-label : LabelAllNeeds (store matrix numbers (replicate vertexPlaces 0) words (replicate treeWords idle) cleared) source
-    can-label = record { n = n; pieces = qs; given = may-begin }
+    pub can-label : LabelAllNeeds (store matrix numbers (replicate vertexPlaces 0) words (replicate treeWords idle) cleared arcs) source
+    can-label = record { arcs-by = lentArc vertices lengths; n = n; pieces = qs; given = may-begin }
 
 -- ---- what the entry returns and leaves
+
+-- The labelling that keeps the arcs too. It is the labelling, but refused by 1 where the buffer of the arcs has another size; what is held there are
+-- the arcs that the vertices were settled by. A refusal leaves both buffers.
+pub record LabelArcsLeaves (n p : ℕ) (sizes vertices lengths : List ℕ) (source : ℕ) (buffer after arcs arcs-after : List ℕ) (r : LabelAnswer) : Type 0 where
+  pub labelled : record { answer = r; labels = after }
+      ≡ cond (hasPlaces labelPlaces arcs) (labelNetwork n p sizes vertices lengths source buffer) (record { answer = labelRefusal 1; labels = buffer })
+  pub held : r .number ≡ 0 → ArcsHeld (lentArc vertices lengths) (labelling (blocks (piecesOf p sizes vertices lengths)) source .settled) arcs-after
+  pub left : r .number ≢ 0 → arcs-after ≡ arcs
 
 module _ (n p : ℕ) (sizes vertices lengths : List ℕ) (source : ℕ) (buffer : List ℕ) where
   abbrev cause : ℕ
@@ -151,10 +165,36 @@ module _ (n p : ℕ) (sizes vertices lengths : List ℕ) (source : ℕ) (buffer 
   unfolding labelNetwork
   refused k e h = let q : cause ≢ 0 = λ z. h (e ∙ z) in rw (ne-eqb cause 0 q, e)
 
-  pub labelled : cause ≡ 0 → (r : LabelAnswer) (after : List ℕ) → IsLabelling (blocks (piecesOf p sizes vertices lengths)) source r after
+  pub labelled : cause ≡ 0 → (r : LabelAnswer) (after arcs : List ℕ) → IsLabelling (lentArc vertices lengths) (blocks (piecesOf p sizes vertices lengths)) source r after arcs
       → record { answer = r; labels = after } ≡ labelNetwork n p sizes vertices lengths source buffer
   unfolding labelNetwork
-  labelled h r after x = rw (eq-eqb cause 0 h, x .0, x .1)
+  labelled h r after arcs x = rw (eq-eqb cause 0 h, x .0, x .1)
+
+  -- the same with the arcs
+  module _ (arcs : List ℕ) where
+    pub arcs-other : length arcs ≢ labelPlaces → LabelArcsLeaves n p sizes vertices lengths source buffer buffer arcs arcs (labelRefusal 1)
+    unfolding hasPlaces
+    arcs-other h = record { labelled = simp (ne-eqb (length arcs) labelPlaces h); held = λ z. absurd (omega arith); left = λ _. refl }
+
+    module _ (full : length arcs ≡ labelPlaces) where
+      pub arcs-refused : (k : ℕ) → k ≡ cause → k ≢ 0 → LabelArcsLeaves n p sizes vertices lengths source buffer buffer arcs arcs (labelRefusal k)
+      unfolding hasPlaces
+      arcs-refused k e h = record { labelled = simp (eq-eqb (length arcs) labelPlaces full) (refused k e h); held = λ z. absurd (h z); left = λ _. refl }
+
+      pub arcs-labelled : cause ≡ 0 → (r : LabelAnswer) (after arcs-after : List ℕ)
+          → IsLabelling (lentArc vertices lengths) (blocks (piecesOf p sizes vertices lengths)) source r after arcs-after
+          → LabelArcsLeaves n p sizes vertices lengths source buffer after arcs arcs-after r
+      unfolding hasPlaces labelAnswer
+      arcs-labelled h r after arcs-after x = record {
+        labelled = simp (eq-eqb (length arcs) labelPlaces full) (labelled h r after arcs-after x);
+        held = λ _. x .2;
+        left = λ z. absurd (z (ap (λ (a : LabelAnswer). a .number) (x .0)));
+      }
+
+      pub labels-alone : (after arcs-after : List ℕ) (r : LabelAnswer) → LabelArcsLeaves n p sizes vertices lengths source buffer after arcs arcs-after r
+          → record { answer = r; labels = after } ≡ labelNetwork n p sizes vertices lengths source buffer
+      unfolding hasPlaces
+      labels-alone after arcs-after r x = simp (eq-eqb (length arcs) labelPlaces full) at (x .labelled)
 
   pub plain : (r : LabelAnswer) (after : List ℕ) → record { answer = r; labels = after } ≡ labelNetwork n p sizes vertices lengths source buffer → r .number ≡ 0 → PlainLabels n p sizes vertices lengths source r after
   unfolding labelNetwork labelAnswer

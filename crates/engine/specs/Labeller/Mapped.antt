@@ -2,7 +2,7 @@
 --   firstOf first-none first-all    the number of a piece's first block
 --   StandsIn NextIn                 a vertex stands at a place, a word names its first place from some piece on
 --   MappedPiece Mapped              the tables are those of these pieces
---   mapped                          what is prepared from a lent network that is accepted
+--   traced mapped                   what is prepared from a lent network that is accepted
 use mathlib.Core.Path.{_≡_, refl, sym, ap, _∙_}
 use mathlib.Core.Bool.{cond, _&&_}
 use mathlib.Core.Logic.{⊎-elim}
@@ -16,8 +16,9 @@ use lib.ListN.{getD, length, take, length-map}
 use lib.Seq.{take-length}
 use Rattle.definitions.specs.Limits.{maxVertices, maxPieces, maxSize, vertexPlaces, rowPlaces}
 use Rattle.definitions.specs.Network.{Piece, sizeOf, noPiece}
-use Rattle.definitions.specs.Blocks.{windowsOf, Block, noBlock, blockOf, blocks}
+use Rattle.definitions.specs.Blocks.{windowsOf, Block, noBlock, blockOf, blocksFrom, blocks}
 use Rattle.definitions.specs.Judgement.{pieceAt, piecesOf}
+use Rattle.definitions.specs.Labelling.{arcAt}
 use Rattle.logic.specs.Tests.{split-at, Truth, holds, fails, truth}
 use Rattle.basics.specs.ListLaws.{Different, every-at}
 use Rattle.basics.specs.ListPlaces.{different-at}
@@ -26,7 +27,7 @@ use Rattle.preparation.specs.Prepared.{sizeAt, placementsOf, partsOf, blocksUpT
 use Rattle.preparation.specs.Placements.{size-small, length-upTo}
 use Rattle.preparation.specs.Numbering.{Fits, noWindow, noPlacement, size-is, sizeOf-is, first-is, firsts-are}
 use Rattle.preparation.specs.PlaceTable.{StandsAt, vertex-at}
-use Rattle.preparation.specs.Parts.{cols-is, last-is, row-at, placed, block-count, block-of, cols-are, row-vertex-is, column-is}
+use Rattle.preparation.specs.Parts.{cols-is, last-is, row-at, placed, block-count, block-of, cols-are, row-vertex-is, column-is, block-piece, block-places, block-length}
 use Rattle.preparation.specs.Tables.{NumbersSame, numbers-same, tables-count, first-in, size-in, vertex-in}
 use Rattle.preparation.specs.PreparationTheorems.{the-count, the-window, first-place, next-place}
 use Rattle.labelling_laws.specs.Acceptance.{Accepted, Suits, suits}
@@ -34,6 +35,7 @@ use Rattle.labelling_laws.specs.OneBlock.{Fit}
 use Rattle.labelling_laws.specs.Arcs.{blocks-fit}
 use Rattle.engine.specs.Labeller.State.{Tables}
 use Rattle.engine.specs.Labeller.Begins.{tablesFor}
+use Rattle.engine.specs.Labeller.ArcWords.{arcWord, lentArc, Traced}
 
 -- the number of the first block of piece d, from 0
 unfoldable pub firstOf : List Piece → ℕ → ℕ
@@ -45,7 +47,7 @@ pub record MappedPiece (t : Tables) (bs : List Block) (first d : ℕ) (q : Piece
   pub apart : Different (q .vertices)
   pub size-is : sizeIn (t .numbers) d ≡ sizeOf q
   pub blocks-in : first + 2 * pred (sizeOf q) ≤ length bs
-  pub blocks-are : (j : ℕ) → j < 2 * pred (sizeOf q) → getD bs (first + j) noBlock ≡ blockOf q (getD (windowsOf (sizeOf q)) j noWindow)
+  pub blocks-are : (j : ℕ) → j < 2 * pred (sizeOf q) → getD bs (first + j) noBlock ≡ blockOf (suc d) q (getD (windowsOf (sizeOf q)) j noWindow)
   pub rows-at : (j : ℕ) → j < 2 * pred (sizeOf q) → rowIn (t .numbers) (first + j) ≡ rowPlaces * d + getD (windowsOf (sizeOf q)) j noWindow .row0
   pub vertex-is : (i : ℕ) → i < sizeOf q → getD (q .vertices) i 0 ≡ vertexIn (t .numbers) (rowPlaces * d + i)
 
@@ -77,7 +79,7 @@ pub record Mapped (t : Tables) (qs : List Piece) : Type 0 where
       → (c ≤ lastIn (t .numbers) b) × (lastIn (t .numbers) b < vertexPlaces) × (getD (getD (blocks qs) b noBlock .cols) c 0 ≡ vertexIn (t .numbers) (lastIn (t .numbers) b - c))
 
 pub first-none : (qs : List Piece) → firstOf qs 0 ≡ 0
-unfolding firstOf blocks
+unfolding firstOf blocks blocksFrom
 first-none qs = refl
 
 pub first-all : (qs : List Piece) → firstOf qs (length qs) ≡ length (blocks qs)
@@ -117,6 +119,12 @@ module _ (n p : ℕ) (sizes vertices lengths : List ℕ) (source : ℕ) (fits : 
   blocks-fill d l =
       let e : (maxPieces - suc d) + suc d ≡ maxPieces = omega (arith, fits .pieces-in) in
       omega (arith, rw e at (blocks-rise p sizes (suc d) (maxPieces - suc d)), block-count p sizes vertices lengths fits, length-upTo p sizes maxPieces)
+
+  last-high : (b : ℕ) → b < length (blocks qs) → lastIn (partsOf p sizes) b < vertexPlaces
+  last-high b l =
+      let h = placed p sizes (fits .pieces-in) b (number b l) in
+      let few = size-small p sizes (getD (placementsOf p sizes) b noPlacement .piece) in
+      omega (arith, last-is p sizes b (number b l), h .some, h .inside .cols-in, h .piece-in, fits .pieces-in)
 
   numbers : (b : ℕ) → b < length (blocks qs) → NumbersSame (tablesOf p sizes vertices) (partsOf p sizes) b
   numbers b l = numbers-same p sizes vertices b (omega (arith, the-count p sizes vertices lengths fits))
@@ -206,6 +214,30 @@ module _ (n p : ℕ) (sizes vertices lengths : List ℕ) (source : ℕ) (fits : 
         least = λ y r g. h .least y (omega arith) (from-pieces v y g);
       }
 
+  -- the word of each entry of the blocks
+  pub traced : Traced (lentArc vertices lengths) (t .numbers) (blocks qs)
+  unfolding lentArc arcAt
+  traced b r c l x y =
+      let row = rowIn (partsOf p sizes) b + r in
+      let col = lastIn (partsOf p sizes) b - c in
+      let wide : c < colsIn (partsOf p sizes) b = omega (arith, cols-are p sizes vertices lengths fits b (number b l)) in
+      let a : row < vertexPlaces = omega (arith, the-window p sizes vertices lengths fits b l .0) in
+      let d : col < vertexPlaces = omega (arith, last-high b l) in
+      let tail : arcWord row col / vertexPlaces ≡ row = omega arith in
+      let head : arcWord row col - vertexPlaces * row ≡ col = omega arith in
+      let one = block-places p sizes vertices lengths fits b (number b l) r c x wide in
+      rw (numbers b l .row, numbers b l .last) (
+        rw (
+          tail,
+          head,
+          row-vertex-is p sizes vertices lengths fits b (number b l) r x,
+          column-is p sizes vertices lengths fits b (number b l) c wide,
+          block-piece p sizes vertices lengths fits b (number b l) r x,
+          block-length p sizes vertices lengths fits b (number b l) r c x wide,
+        ),
+        record { small = omega arith; from-piece = rw (tail, head) (one .0); in-piece = rw (tail, head) (one .1) },
+      )
+
   pub mapped : Mapped t qs
   unfolding firstOf blocksUpTo firstsOf
   mapped = record {
@@ -227,10 +259,8 @@ module _ (n p : ℕ) (sizes vertices lengths : List ℕ) (source : ℕ) (fits : 
     cols-are = λ b c l x.
         let wide : c < colsIn (partsOf p sizes) b = omega (arith, cols-are p sizes vertices lengths fits b (number b l)) in
         let last = last-is p sizes b (number b l) in
-        let h = placed p sizes (fits .pieces-in) b (number b l) in
-        let few = size-small p sizes (getD (placementsOf p sizes) b noPlacement .piece) in
         let cols = cols-is p sizes b (number b l) in
-        let high : lastIn (partsOf p sizes) b < vertexPlaces = omega (arith, last, cols, h .inside .cols-in, h .piece-in, fits .pieces-in) in
+        let high = last-high b l in
         rw (numbers b l .last) (
           omega (arith, last, cols),
           high,

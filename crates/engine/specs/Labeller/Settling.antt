@@ -37,7 +37,7 @@ piece-done q first v i l ss h s start k ss′ n d one = record { long = d .long;
 
 -- a piece that does not have v
 pub piece-absent : (q : Piece) (first v l : ℕ) (ss : List BlockState) → sizeOf q ≤ maxSize
-    → ((j : ℕ) → j < 2 * pred (sizeOf q) → blockIn first ss j .block ≡ blockOf q (getD (windowsOf (sizeOf q)) j noWindow))
+    → ((j : ℕ) → j < 2 * pred (sizeOf q) → blockIn first ss j .block .rows ≡ blockOf 0 q (getD (windowsOf (sizeOf q)) j noWindow) .rows)
     → ((i : ℕ) → i < sizeOf q → getD (q .vertices) i 0 ≢ v) → PieceDone first (sizeOf q) v l ss ss 0
 piece-absent q first v l ss small are absent = record {
   long = refl;
@@ -45,7 +45,7 @@ piece-absent q first v l ss small are absent = record {
   done = λ j x.
       let w = getD (windowsOf (sizeOf q)) j noWindow in
       let inside : Inside (sizeOf q) w = every-at (Inside (sizeOf q)) (windowsOf (sizeOf q)) (windows-inside (sizeOf q) small) j noWindow (omega (arith, length-windowsOf (sizeOf q) small)) in
-      let e : placeOf v 0 (blockIn first ss j .block .rows) ≡ none = rw (are j x) (row-absent q w (inside .rows-in) v absent) in
+      let e : placeOf v 0 (blockIn first ss j .block .rows) ≡ none = rw (are j x) (row-absent 0 q w (inside .rows-in) v absent) in
       sym (activated-none v l (blockIn first ss j) e);
   counted = omega arith;
 }

@@ -105,7 +105,7 @@ rows-before {t = t} qs h (suc d) l b m = ⊎-elim (λ (a : b < firstOf qs d). om
         let n : j < 2 * pred (sizeOf q) = omega (arith, h .first-next d (omega arith)) in
         let w = getD (windowsOf (sizeOf q)) j noWindow in
         let inside : Inside (sizeOf q) w = every-at (Inside (sizeOf q)) (windowsOf (sizeOf q)) (windows-inside (sizeOf q) (g .small)) j noWindow (omega (arith, length-windowsOf (sizeOf q) (g .small))) in
-        let rows : length (getD (blocks qs) b noBlock .rows) ≡ w .rows = rw e at (ap (λ (k : Block). length (k .rows)) (g .blocks-are j n) ∙ block-rows q w) in
+        let rows : length (getD (blocks qs) b noBlock .rows) ≡ w .rows = rw e at (ap (λ (k : Block). length (k .rows)) (g .blocks-are j n) ∙ block-rows (suc d) q w) in
         let at : rowIn (t .numbers) b ≡ rowPlaces * d + w .row0 = rw e at (g .rows-at j n) in
         omega (arith, inside .rows-in, g .small)
 
@@ -148,8 +148,9 @@ module _ {a : Arrays} {v l : ℕ} {qs : List Piece} {ss : List BlockState} (give
       abbrev now : Arrays
       now = changed a rowLabels words tree
 
-      are : (j : ℕ) → j < 2 * pred (sizeOf q) → blockIn (firstOf qs d) (x .states) j .block ≡ blockOf q (getD (windowsOf (sizeOf q)) j noWindow)
-      are j r = sym (block-same (x .kept .held) (firstOf qs d + j)) ∙ piece .blocks-are j r
+      are : (j : ℕ) → j < 2 * pred (sizeOf q) → blockIn (firstOf qs d) (x .states) j .block .rows ≡ blockOf 0 q (getD (windowsOf (sizeOf q)) j noWindow) .rows
+      unfolding blockOf
+      are j r = ap (λ (b : Block). b .rows) (sym (block-same (x .kept .held) (firstOf qs d + j)) ∙ piece .blocks-are j r)
 
       piece-missing : ((i : ℕ) → i < sizeOf q → getD (q .vertices) i 0 ≢ v) → PiecesDone (Running now (blocks qs)) qs v l ss (d + 1) n
       piece-missing missing =

@@ -142,14 +142,14 @@ module _ (rows : List (List ℕ)) (cols : ℕ) (heap labels : List ℕ) (floor :
 
 -- ---- an extraction
 
-module _ (rows : List (List ℕ)) (cols : ℕ) (heap labels : List ℕ) (floor : ℕ) (m : Model) (s : SessionHolds rows cols heap labels floor m) (k : Call) (kind-is : k .kind ≡ 2) (u : List ℕ) (inserted removed : ℕ) where
+module _ (rows : List (List ℕ)) (cols : ℕ) (heap labels : List ℕ) (floor : ℕ) (m : Model) (s : SessionHolds rows cols heap labels floor m) (k : Call) (kind-is : k .kind ≡ 2) (u : List ℕ) (inserted parent : ℕ) where
   abbrev found : Best
   found = leastFrom (available (lentEntry rows 0) m) 0 cols
 
   asked : stepOf rows cols m k ≡ record { model = extract m found; answer = extractionOf found }
   asked = step-extract (lentEntry rows 0) (length rows) cols m k kind-is
 
-  pub steps-none : MinExtracted u rows 0 cols labels m Nothing inserted removed → Steps rows cols m k u labels (refusal 50 floor)
+  pub steps-none : MinExtracted u rows 0 cols labels m Nothing inserted parent → Steps rows cols m k u labels (refusal 50 floor)
   unfolding extract
   steps-none t = go found refl
     where
@@ -161,12 +161,12 @@ module _ (rows : List (List ℕ)) (cols : ℕ) (heap labels : List ℕ) (floor :
           (rw q (sym (countNew-same (intervals (lentEntry rows 0) cols m)))) (rw q (sym (countNew-same (intervals (lentEntry rows 0) cols m))))
       go (by c d) e = absurd (omega (arith, ap (λ (a : Answer). a .code) (rw e at (t .answer-is))))
 
-  pub steps-column : (column sum : ℕ) → MinExtracted u rows 0 cols labels m (Column column sum) inserted removed
-      → Steps rows cols m k u labels (record { code = 0; column = column; sum = sum; floor = sum; inserted = inserted; removed = removed })
+  pub steps-column : (column sum : ℕ) → MinExtracted u rows 0 cols labels m (Column column sum) inserted parent
+      → Steps rows cols m k u labels (record { code = 0; column = column; sum = sum; floor = sum; inserted = inserted; removed = 1 })
   unfolding extract
   steps-column column sum t = go found refl
     where
-      go : (x : Best) → found ≡ x → Steps rows cols m k u labels (record { code = 0; column = column; sum = sum; floor = sum; inserted = inserted; removed = removed })
+      go : (x : Best) → found ≡ x → Steps rows cols m k u labels (record { code = 0; column = column; sum = sum; floor = sum; inserted = inserted; removed = 1 })
       go nobody e = absurd (omega (arith, ap (λ (a : Answer). a .code) (rw e at (t .answer-is))))
       go (by c d) e =
           let q = rw e at asked in

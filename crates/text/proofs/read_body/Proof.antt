@@ -38,13 +38,13 @@ returns-3 c =
     let q = c .before .before in
     let r = q .before .before in
     rw (c .refusal3 .ensures)
-    (body-question _ _ _ (in-bounds (accepted r)) _ _ _ _ _ (pieces-read r .read-pieces .ensures) (q .before .if2 .left) _ _ (q .read-question .ensures) _ _ _ (c .before .if3 .taken))
+    (body-question _ _ _ (in-bounds (accepted r)) _ _ _ _ _ (pieces-read r .read-pieces .ensures) (q .before .if2 .left) _ _ _ (q .read-question .ensures) _ _ _ (c .before .if3 .taken))
 
 returns-4 : tie.Need-returns-4
 returns-4 c =
     let q = c .before in
     let r = q .before .before in
-    body-done _ _ _ (in-bounds (accepted r)) _ _ _ _ _ (pieces-read r .read-pieces .ensures) (q .before .if2 .left) _ _ (q .read-question .ensures) (c .if3 .left)
+    body-done _ _ _ (in-bounds (accepted r)) _ _ _ _ _ (pieces-read r .read-pieces .ensures) (q .before .if2 .left) _ _ _ (q .read-question .ensures) (c .if3 .left)
 
 pub read-body-spec : {M : Type 1} → statement M
 read-body-spec =
