@@ -9,6 +9,7 @@ TOP = Path(__file__).resolve().parent.parent
 README, CLAIMS, HOST_README = "README.md", "docs/CLAIMS.md", "host/README.md"
 RELATIONS = "crates/engine/specs/Relations.antt"
 DOCUMENTS = [README, CLAIMS, "docs/DECISIONS.md", "docs/PERFORMANCE.md", HOST_README, RELATIONS]
+RELATED = ["engine", "definitions", "rectangles", "index"]
 HEADER, CRATE = "host/include/rabdzhine.h", "host/src/lib.rs"
 
 # What stands in backticks and is no name of the repository: formats, commands, words of a language, what a build makes.
@@ -68,6 +69,9 @@ HOST_CONSTANTS = {
     "ARC_SIZE": "Network.ARC_SIZE",
     "NO_TARGET": "Network.NO_TARGET",
     "RECTANGLE": "Session.RECTANGLE_PLACES",
+    "INDEX": "Session.INDEX_PLACES",
+    "INDEX_ROW": "Network.INDEX_PLACES",
+    "NOTHING": "Code.NOTHING",
     "CALLS": "Session.CALL_PLACES",
     "ANSWERS": "Session.ANSWER_PLACES",
     "INTERVALS": "Session.INTERVAL_PLACES",
@@ -217,8 +221,8 @@ def check_relations():
         for name in re.findall(r"\w+", listed[1]) if listed else []:
             name = stem + name if name in ("Leaves", "Keeps") else name
             stem = re.sub("(Needs|Leaves|Keeps|Given)$", "", name)
-            if not any(spec_has(TOP / "crates" / crate, name) for crate in ("engine", "definitions")):
-                fault(f"{RELATIONS}:{number}", f"{name} is not defined in engine or definitions")
+            if not any(spec_has(TOP / "crates" / crate, name) for crate in RELATED):
+                fault(f"{RELATIONS}:{number}", f"{name} is not defined in {', '.join(RELATED)}")
         for path in re.findall(r"[A-Z]\w+/\w+", line):
             if not place_of(path, RELATIONS):
                 fault(f"{RELATIONS}:{number}", f"{path} is no file")

@@ -4,12 +4,15 @@
 //! All three labellings must give the same labels, and the two FR-Dijkstras the same counts. The proved one judges the network
 //! before it labels, as it must; so the unproved one does too, by a check of its own. The plain Dijkstra does not. Both FR-Dijkstras
 //! keep the same five numbers for each interval and read the bests among them, but the unproved one finds the columns that a new row
-//! wins by walking outward from the row's place, where the proved one finds both ends by halving.
+//! wins by walking outward from the row's place, where the proved one finds both ends by halving, and it finds a best by a scan, where
+//! the proved one asks an index. The index alone is measured at the end, beside a scan.
 
-use rabdzhine::{LABELS, LENGTHS, SIZES, VERTICES};
-use reference::network::{weight, Lent, Plan, MAX_VERTICES, ROOM};
-use reference::plans::{city, hostile, longest_street, Kind, Rng, KINDS, TOWN_STREET};
-use reference::{dijkstra, fr_dijkstra, text};
+use rabdzhine::{INDEX, LABELS, LENGTHS, SIZES, VERTICES};
+use reference::network::{weight, Lent, Plan, MAX_SIZE, MAX_VERTICES, ROOM};
+use reference::plans::{
+    city, hostile, lent_rectangle, longest_street, rectangle, Kind, Rng, KINDS, TOWN_STREET,
+};
+use reference::{dijkstra, fr_dijkstra, index, text};
 use std::hint::black_box;
 use std::time::Instant;
 
@@ -208,11 +211,69 @@ fn series(title: &str, plans: Vec<(String, Plan)>, growing: bool) -> f64 {
     rows.iter().map(|r| r.label / r.fr_label).fold(0.0, f64::max)
 }
 
+// ---- the index alone
+
+/// A stretch of a row: the row, its first column, its end.
+type Stretch = [usize; 3];
+
+/// All stretches of this width in a block of 24 x 24.
+fn stretches(width: usize) -> Vec<Stretch> {
+    let in_row = |row: usize| (0..=ROOM - width).map(move |first| [row, first, first + width]);
+    (0..ROOM).flat_map(in_row).collect()
+}
+
+/// Nanoseconds of one of these questions, all of them taken together.
+fn of_each(asked: &[Stretch], one: impl Fn(Stretch) -> usize) -> f64 {
+    1e3 * timed(|| asked.iter().map(|&stretch| one(black_box(stretch))).sum::<usize>()) / asked.len() as f64
+}
+
+/// One width to a line.
+fn print_questions(lengths: &[u32], held: &[u8]) {
+    let ask = |[row, first, end]: Stretch| {
+        let answer = rabdzhine::ask_index(
+            MAX_SIZE,
+            MAX_SIZE,
+            black_box(lengths),
+            held,
+            row as u32,
+            first as u32,
+            end as u32,
+        );
+        answer.column as usize
+    };
+    let scan = |[row, first, end]: Stretch| {
+        index::scan(&black_box(lengths)[ROOM * row..][..ROOM], first..end).expect("a column")
+    };
+    println!("\n{:>8}{:>8}{:>8}", "width", "index", "scan");
+    for width in [1, 2, 4, 8, 12, 16, 20, 23, 24] {
+        let asked = stretches(width);
+        assert!(asked.iter().all(|&stretch| ask(stretch) == scan(stretch)), "the answers differ");
+        let mut times: [Vec<f64>; 2] = Default::default();
+        for _ in 0..ROUNDS {
+            times[0].push(of_each(&asked, ask));
+            times[1].push(of_each(&asked, scan));
+        }
+        let [by_index, by_scan] = times.map(median);
+        println!("{width:8}{by_index:8.1}{by_scan:8.1}");
+    }
+}
+
+fn print_index(rng: &mut Rng) {
+    let lengths = lent_rectangle(&rectangle(ROOM, ROOM, Kind::Free, rng), 0);
+    let mut held = [0; INDEX];
+    let mut build = || timed(|| rabdzhine::build_index(MAX_SIZE, MAX_SIZE, black_box(&lengths), &mut held));
+    let built = median((0..ROUNDS).map(|_| build()).collect());
+    println!("\nThe index of a block of 24 x 24: {built:.1} microseconds to judge the block and build it.");
+    println!("Nanoseconds of a question through the exported entry, and of a scan in Rust, the mean of all stretches of a width:");
+    print_questions(&lengths, &held);
+}
+
 fn main() {
     let mut rng = Rng::new(2024);
     println!("Microseconds, medians of {ROUNDS} runs from each of {SOURCES} sources.");
     println!("read, check, label: the proved library. plain: plain Dijkstra. FR: unproved FR-Dijkstra.");
-    println!("The two FR-Dijkstras differ in the search for the columns that a new row wins: the proved one halves, the other walks.");
+    println!("The two FR-Dijkstras differ in the search for the columns that a new row wins: the proved one halves, the other walks;");
+    println!("and in the best of an interval: the proved one asks an index, the other scans.");
     println!("label and FR label include the check of the network.");
 
     let shapes = [(1, 1), (1, 2), (2, 2), (2, 4), (4, 4)];
@@ -237,4 +298,6 @@ fn main() {
     let d = series("Streets of a town and of an interurban line, 16 x 24", lines.into(), false);
 
     println!("\nLargest label/FR: {:.2}. The bar is 1.5.", a.max(b).max(c).max(d));
+
+    print_index(&mut rng);
 }

@@ -1,4 +1,5 @@
-/* What a unit's firmware does: reads plans, labels gates, prints a route leg by leg, and asks one block a few calls. */
+/* What a unit's firmware does: reads plans, labels gates, prints a route leg by leg, asks one block a few calls, and its index for the
+ * least of a row. */
 #include <stdio.h>
 #include <string.h>
 
@@ -28,6 +29,7 @@ static const char ROUTE_PLAN[] =
 static uint32_t sizes[RABDZHINE_SIZES], vertices[RABDZHINE_VERTICES], lengths[RABDZHINE_LENGTHS], labels[RABDZHINE_LABELS];
 static uint32_t arcs[RABDZHINE_ROUTE_PLACES];
 static uint32_t rectangle[RABDZHINE_RECTANGLE], calls[RABDZHINE_CALLS], answers[RABDZHINE_ANSWERS], intervals[RABDZHINE_INTERVALS];
+static uint8_t block_index[RABDZHINE_INDEX];
 static uint8_t listing[RABDZHINE_LISTING];
 
 static rabdzhine_read_answer read_plan(const char *text) {
@@ -76,9 +78,13 @@ static int print_route(void) {
     return 0;
 }
 
+/* the depot's first block, [5 7; 6 4] */
+static void fill_block(void) {
+    rectangle[0] = 5, rectangle[1] = 7, rectangle[24] = 6, rectangle[25] = 4;
+}
+
 static void run_calls(void) {
     static const uint32_t script[12] = {1, 0, 0, 1, 1, 2, 2, 0, 0, 1, 1, 9};
-    rectangle[0] = 5, rectangle[1] = 7, rectangle[24] = 6, rectangle[25] = 4;
     memcpy(calls, script, sizeof script);
     rabdzhine_session_answer done = rabdzhine_run_session(2, 2, 4, rectangle, RABDZHINE_RECTANGLE, calls, RABDZHINE_CALLS,
                                                           answers, RABDZHINE_ANSWERS, intervals, RABDZHINE_INTERVALS);
@@ -92,13 +98,30 @@ static void run_calls(void) {
     }
 }
 
+/* both rows whole, one column of the first, and a stretch that leaves the row */
+static void ask_block(void) {
+    static const uint32_t questions[4][3] = {{0, 0, 2}, {1, 0, 2}, {0, 1, 2}, {0, 1, 3}};
+    uint32_t number = rabdzhine_build_index(2, 2, rectangle, RABDZHINE_RECTANGLE, block_index, RABDZHINE_INDEX);
+    printf("index %u: row 0 holds %u, row 1 holds %u\n", (unsigned)number, (unsigned)block_index[0],
+           (unsigned)block_index[RABDZHINE_INDEX_ROW]);
+    for (int j = 0; j < 4; j++) {
+        const uint32_t *asked = questions[j];
+        rabdzhine_least_answer least = rabdzhine_ask_index(2, 2, rectangle, RABDZHINE_RECTANGLE, block_index, RABDZHINE_INDEX,
+                                                           asked[0], asked[1], asked[2]);
+        printf("row %u from column %u up to %u: code %u, column %u\n", (unsigned)asked[0], (unsigned)asked[1], (unsigned)asked[2],
+               (unsigned)least.code, (unsigned)least.column);
+    }
+}
+
 int main(void) {
     uint32_t value = 0;
     uint8_t line[RABDZHINE_LINE + 1] = "                                    ";
     if (label_plan() != 0) {
         return 1;
     }
+    fill_block();
     run_calls();
+    ask_block();
     printf("check %u\n", (unsigned)rabdzhine_check_network(5, 1, sizes, RABDZHINE_SIZES, vertices, RABDZHINE_VERTICES, lengths,
                                                            RABDZHINE_LENGTHS));
     printf("field %u", (unsigned)rabdzhine_read_field((const uint8_t *)PLAN, strlen(PLAN), 37, &value, 1));

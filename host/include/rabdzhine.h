@@ -28,7 +28,7 @@
  *   9   kind is not 1 or 2, or the told row is out of range
  *   10  the row is already told
  *   11  the value is above 254,999,745, or less than the sum of the latest take
- *   50  a take has nothing to hand out (no refusal)
+ *   50  a take has nothing to hand out (no refusal); also the answer to a question to an index for a stretch that is not there
  */
 #ifndef RABDZHINE_H
 #define RABDZHINE_H
@@ -47,6 +47,7 @@ extern "C" {
 #define RABDZHINE_LABELS 256         /* label of gate v at v - 1 */
 #define RABDZHINE_ROUTE_PLACES 1020  /* the numbers of 255 legs */
 #define RABDZHINE_RECTANGLE 576      /* 24 rows of 24 lengths */
+#define RABDZHINE_INDEX 552          /* 24 rows of 23 columns */
 #define RABDZHINE_CALLS 192          /* kind, row, value of each of 64 calls */
 #define RABDZHINE_ANSWERS 192        /* code, column, sum of each answer */
 #define RABDZHINE_INTERVALS 120      /* the numbers of 24 intervals */
@@ -58,6 +59,12 @@ extern "C" {
 
 /* What every place of an unused interval holds. A best sum may be 255 too, but no owner is: an unused interval is known by its owner. */
 #define RABDZHINE_UNUSED UINT32_C(255)
+
+/* The places of the index of one row: one fewer than the columns that a row has room for. */
+#define RABDZHINE_INDEX_ROW 23
+
+/* The code where there is no column: of a take that has nothing to hand out, and of a question for a stretch that is not there. */
+#define RABDZHINE_NOTHING UINT32_C(50)
 
 /* The most legs of a route: it passes no gate twice. */
 #define RABDZHINE_MAX_ARCS 255
@@ -88,8 +95,10 @@ extern "C" {
 #define RABDZHINE_STACK_CHECK_NETWORK 5120
 #define RABDZHINE_STACK_LABEL_NETWORK 180224
 #define RABDZHINE_STACK_ROUTE_NETWORK 180224
-#define RABDZHINE_STACK_RUN_SESSION 7168
-#define RABDZHINE_STACK_WRITE_LISTING 229376
+#define RABDZHINE_STACK_RUN_SESSION 8704
+#define RABDZHINE_STACK_BUILD_INDEX 7680
+#define RABDZHINE_STACK_ASK_INDEX 1152
+#define RABDZHINE_STACK_WRITE_LISTING 245760
 
 /* On a refusal `number` is its number and all else is 0. */
 typedef struct {
@@ -118,6 +127,11 @@ typedef struct {
     uint32_t inserted; /* intervals brought in */
     uint32_t removed;  /* intervals dropped */
 } rabdzhine_session_answer;
+
+typedef struct {
+    uint32_t code;   /* 0, RABDZHINE_NOTHING, or the number of the refusal */
+    uint32_t column; /* 0 where there is none */
+} rabdzhine_least_answer;
 
 /*
  * Reads the field of six bytes that starts at place `at` of the text, any place.
@@ -186,6 +200,28 @@ rabdzhine_session_answer rabdzhine_run_session(uint32_t rows, uint32_t cols, uin
                                                const uint32_t *calls, size_t calls_len,
                                                uint32_t *answers, size_t answers_len,
                                                uint32_t *intervals, size_t intervals_len);
+
+/*
+ * Builds the index of one block of 1 to 24 rows and columns. Row i of the rectangle starts at place 24 * i, its index at place 23 * i: for the
+ * stretch of all columns, then for its first half with all halves of that, then for its second, the lowest column of least length. Of an odd
+ * number of columns the second half has one more; a single column has no place. Unused places are 0.
+ * Returns 0, or 1, 4, 6 or 7, as for a session; a refusal leaves index.
+ */
+uint32_t rabdzhine_build_index(uint32_t rows, uint32_t cols,
+                               const uint32_t *lengths, size_t lengths_len,
+                               uint8_t *index, size_t index_len);
+
+/*
+ * Asks an index for a stretch of a row: the columns from `first` up to the one before `end`, counted from 0.
+ * Returns 0 with the lowest column of least length there, if the index was built from these lengths. A row that is not there, a stretch that
+ * is empty and one that leaves the row get RABDZHINE_NOTHING. Refused are 1 and 4; lengths and the inequality are not judged once more.
+ * An index may hold any bytes: a number that is no column of its stretch counts as the first one of it, so that the answer is always a
+ * column of what was asked for.
+ */
+rabdzhine_least_answer rabdzhine_ask_index(uint32_t rows, uint32_t cols,
+                                           const uint32_t *lengths, size_t lengths_len,
+                                           const uint8_t *index, size_t index_len,
+                                           uint32_t row, uint32_t first, uint32_t end);
 
 /*
  * Writes what the program `labels` writes for this text, the line of a refusal included, to the front of out: the labels of all gates, or

@@ -44,8 +44,14 @@ pub const ROUTE_PLACES: usize = 1020;
 pub const MAX_ARCS: usize = 255;
 /// Numbers of a leg: from gate, to gate, district (from 1), metres.
 pub const ARC_SIZE: usize = 4;
-/// Places of a session's rectangle: 24 rows of 24.
+/// Places of a rectangle, a session's or an index's: 24 rows of 24.
 pub const RECTANGLE: usize = 576;
+/// Places of the index of one row: one fewer than the columns that a row has room for.
+pub const INDEX_ROW: usize = 23;
+/// Places of the index of a rectangle: 24 rows of 23.
+pub const INDEX: usize = 552;
+/// The code of a question to an index that has no answer, and of a take that has nothing to hand out.
+pub const NOTHING: u32 = 50;
 /// Places of a session's calls: kind, row and value of each.
 pub const CALLS: usize = 192;
 /// Places of a session's answers: code, column and sum of each.
@@ -84,9 +90,13 @@ pub const STACK_LABEL_NETWORK: usize = 180_224;
 /// Bytes of stack for [`route_network`].
 pub const STACK_ROUTE_NETWORK: usize = 180_224;
 /// Bytes of stack for [`run_session`].
-pub const STACK_RUN_SESSION: usize = 7168;
+pub const STACK_RUN_SESSION: usize = 8704;
+/// Bytes of stack for [`build_index`].
+pub const STACK_BUILD_INDEX: usize = 7680;
+/// Bytes of stack for [`ask_index`].
+pub const STACK_ASK_INDEX: usize = 1152;
 /// Bytes of stack for [`write_listing`].
-pub const STACK_WRITE_LISTING: usize = 229_376;
+pub const STACK_WRITE_LISTING: usize = 245_760;
 
 /// What the text reader returns. On a refusal all but `number` is 0.
 #[repr(C)]
@@ -140,6 +150,16 @@ pub struct SessionAnswer {
     pub inserted: u32,
     /// intervals dropped
     pub removed: u32,
+}
+
+/// What a question to an index returns. `column` is 0 where there is none.
+#[repr(C)]
+#[derive(Clone, Copy, Debug, PartialEq, Eq)]
+pub struct LeastAnswer {
+    /// 0, [`NOTHING`], or the number of the refusal
+    pub code: u32,
+    /// the lowest column of least length
+    pub column: u32,
 }
 
 // SAFETY, of every call below: each pointer and length comes from one slice that is borrowed for the call, mutably where the entry
@@ -314,6 +334,61 @@ pub fn run_session(
             answers.len(),
             intervals.as_mut_ptr(),
             intervals.len(),
+        )
+    }
+}
+
+/// Builds the index of one block. Row i has its own at [`INDEX_ROW`] times i: for the stretch of all columns, then for each half of it, the
+/// lowest column of least length. Unused places are 0. Returns 0, 1, 4, 6 or 7; a refusal leaves `index`.
+///
+/// ```
+/// use rabdzhine::{ask_index, build_index, LeastAnswer, INDEX, NOTHING, RECTANGLE};
+///
+/// let (mut lengths, mut index) = ([0; RECTANGLE], [0; INDEX]);
+/// lengths[..5].copy_from_slice(&[3, 1, 2, 1, 1]); // a block of one row and five columns
+/// assert_eq!(build_index(1, 5, &lengths, &mut index), 0);
+///
+/// // the least of columns 2 to 4 is that of column 3, and column 4 has the same
+/// assert_eq!(ask_index(1, 5, &lengths, &index, 0, 2, 5), LeastAnswer { code: 0, column: 3 });
+/// // a stretch that leaves the row
+/// assert_eq!(ask_index(1, 5, &lengths, &index, 0, 2, 6), LeastAnswer { code: NOTHING, column: 0 });
+/// ```
+pub fn build_index(rows: u32, cols: u32, lengths: &[u32], index: &mut [u8]) -> u32 {
+    unsafe {
+        raw::rabdzhine_build_index(
+            rows,
+            cols,
+            lengths.as_ptr(),
+            lengths.len(),
+            index.as_mut_ptr(),
+            index.len(),
+        )
+    }
+}
+
+/// Asks an index for the lowest column of least length of a row, from column `first` up to the one before `end`. A row that is not there, a
+/// stretch that is empty and one that leaves the row get [`NOTHING`]. The lengths are those that the index was built from: they are not
+/// judged once more. From any other bytes the answer is some column of the stretch.
+pub fn ask_index(
+    rows: u32,
+    cols: u32,
+    lengths: &[u32],
+    index: &[u8],
+    row: u32,
+    first: u32,
+    end: u32,
+) -> LeastAnswer {
+    unsafe {
+        raw::rabdzhine_ask_index(
+            rows,
+            cols,
+            lengths.as_ptr(),
+            lengths.len(),
+            index.as_ptr(),
+            index.len(),
+            row,
+            first,
+            end,
         )
     }
 }

@@ -1,6 +1,6 @@
 //! The entries as the library exports them: a slice is a pointer and a length.
 
-use crate::{LabelAnswer, ReadAnswer, RouteAnswer, SessionAnswer};
+use crate::{LabelAnswer, LeastAnswer, ReadAnswer, RouteAnswer, SessionAnswer};
 
 extern "C" {
     pub fn rabdzhine_read_field(
@@ -77,6 +77,27 @@ extern "C" {
         intervals: *mut u32,
         intervals_len: usize,
     ) -> SessionAnswer;
+
+    pub fn rabdzhine_build_index(
+        rows: u32,
+        cols: u32,
+        lengths: *const u32,
+        lengths_len: usize,
+        index: *mut u8,
+        index_len: usize,
+    ) -> u32;
+
+    pub fn rabdzhine_ask_index(
+        rows: u32,
+        cols: u32,
+        lengths: *const u32,
+        lengths_len: usize,
+        index: *const u8,
+        index_len: usize,
+        row: u32,
+        first: u32,
+        end: u32,
+    ) -> LeastAnswer;
 
     pub fn rabdzhine_write_listing(text: *const u8, text_len: usize, out: *mut u8, out_len: usize) -> usize;
 }

@@ -19,6 +19,11 @@ code 0, column 0, sum 0
 code 0, column 0, sum 5
 code 10, column 0, sum 0
 row 1 owns columns 1 to 1, best column 1, sum 6
+index 0: row 0 holds 0, row 1 holds 1
+row 0 from column 0 up to 2: code 0, column 0
+row 1 from column 0 up to 2: code 0, column 1
+row 0 from column 1 up to 2: code 0, column 1
+row 0 from column 1 up to 3: code 50, column 0
 check 0
 field 0 4
 place 2: 0, place 4: 4, line [                         42         ]

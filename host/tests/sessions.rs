@@ -5,7 +5,7 @@ use rabdzhine::{ANSWERS, CALLS, INTERVALS, INTERVAL_SIZE, RECTANGLE, UNUSED};
 use reference::entries;
 use reference::model::MAX_LABEL;
 use reference::network::{MAX_CALLS, MAX_LENGTH, MAX_SIZE, ROOM};
-use reference::plans::{session, Rng, Session, KINDS};
+use reference::plans::{lent_rectangle, session, Rng, Session, KINDS};
 use std::collections::BTreeSet;
 
 /// The outputs start with 7 in them. Returns the number, the answers and the intervals.
@@ -32,10 +32,7 @@ const PLACES: [usize; 2] = [ANSWERS, INTERVALS];
 
 /// A session on a rectangle of some rows of `N` lengths.
 fn on<const N: usize>(rectangle: &[[u32; N]], calls: &[[u32; 3]]) -> Session {
-    let mut lengths = vec![0; RECTANGLE];
-    for (places, row) in lengths.chunks_mut(ROOM).zip(rectangle) {
-        places[..N].copy_from_slice(row);
-    }
+    let lengths = lent_rectangle(rectangle, 0);
     let mut lent_calls = vec![0; CALLS];
     lent_calls[..3 * calls.len()].copy_from_slice(&calls.concat());
     let (rows, cols, count) = (rectangle.len() as u32, N as u32, calls.len() as u32);

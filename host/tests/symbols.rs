@@ -4,7 +4,9 @@ use std::collections::BTreeSet;
 use std::path::Path;
 use std::process::Command;
 
-const ENTRIES: [&str; 8] = [
+const ENTRIES: [&str; 10] = [
+    "rabdzhine_ask_index",
+    "rabdzhine_build_index",
     "rabdzhine_check_network",
     "rabdzhine_label_network",
     "rabdzhine_read_field",

@@ -32,6 +32,9 @@ impl Network {
     // the places of one row
     pub const ROW_PLACES: usize = Network::MAX_SIZE as usize;
 
+    // the places of the index of one row: a single column needs none
+    pub const INDEX_PLACES: usize = Network::ROW_PLACES - 1;
+
     // the places of one piece's table
     pub const TABLE_PLACES: usize = Network::ROW_PLACES * Network::ROW_PLACES;
 
@@ -72,6 +75,9 @@ impl Session {
     pub const SIDE_PLACES: usize = Session::MAX_SIDE as usize;
 
     pub const RECTANGLE_PLACES: usize = Session::SIDE_PLACES * Network::ROW_PLACES;
+
+    // the index of the rectangle
+    pub const INDEX_PLACES: usize = Session::SIDE_PLACES * Network::INDEX_PLACES;
 
     pub const CALL_PLACES: usize = Session::CALL_SIZE * Session::MAX_CALLS as usize;
 

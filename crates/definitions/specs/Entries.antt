@@ -1,5 +1,6 @@
 -- What each entry returns and leaves in each lent buffer, for every input. The causes are those of document 01, "Causes that turn an input away".
 --   session          a session on one block, with the law that the order of its intervals fixes their buffer
+--   buildIndex askIndex    the index of one block, and a question to it
 --   labelNetwork     the labelling of a lent network
 --   routeNetwork     the route to a target in a lent network
 --   judgeLent        the judgement of a lent network
@@ -13,13 +14,15 @@ use mathlib.Core.Bool.{Bool, cond, _&&_}
 use mathlib.Core.List.{List, [], _∷_, _++_, map, flatMap}
 use mathlib.Core.Option.{Option, none, some}
 use Prim.Native.Nat.{ℕ, _+_, _*_}
-use lib.Dec.{eqb, leb}
+use lib.Dec.{eqb, ltb, leb}
 use lib.ListN.{getD, length, take, drop, replicate}
 use Rattle.definitions.specs.declared.ReadAnswer.{ReadAnswer}
 use Rattle.definitions.specs.declared.LabelAnswer.{LabelAnswer}
 use Rattle.definitions.specs.declared.RouteAnswer.{RouteAnswer}
 use Rattle.definitions.specs.declared.SessionAnswer.{SessionAnswer}
-use Rattle.definitions.specs.Limits.{maxLength, maxArcs, maxSide, maxCalls, sizePlaces, vertexPlaces, lengthPlaces, rowPlaces, labelPlaces, routePlaces, rectanglePlaces, callPlaces, answerPlaces, intervalPlaces, callSize, answerSize, columnBytes, lineFields, linePlaces, lastPlace, noTarget, unusedInterval}
+use Rattle.definitions.specs.declared.Least.{Least}
+use Rattle.definitions.specs.declared.Least.the-variants.{Nothing, Refused}
+use Rattle.definitions.specs.Limits.{maxLength, maxArcs, maxSide, maxCalls, sizePlaces, vertexPlaces, lengthPlaces, rowPlaces, labelPlaces, routePlaces, rectanglePlaces, indexRowPlaces, indexPlaces, callPlaces, answerPlaces, intervalPlaces, callSize, answerSize, columnBytes, lineFields, linePlaces, lastPlace, noTarget, unusedInterval}
 use Rattle.definitions.specs.Lists.{all, upFrom, padded, within, firstCause}
 use Rattle.definitions.specs.Network.{Rectangle, RouteArc}
 use Rattle.definitions.specs.Monge.{isMonge}
@@ -27,6 +30,7 @@ use Rattle.definitions.specs.Blocks.{blocks}
 use Rattle.definitions.specs.Best.{Best, nobody, by}
 use Rattle.definitions.specs.Intervals.{Interval, interval, SameIntervals, byFirstColumn, FirstsRise}
 use Rattle.definitions.specs.Model.{intervals, by-first-column-exactly, Listed, withBest, Call, Answer, trace}
+use Rattle.definitions.specs.Index.{indexOf, ask, leastFound}
 use Rattle.definitions.specs.Labelling.{State, labelOf, labelling, reached, extractions, insertions, heldLabel, labels, routeTo}
 use Rattle.definitions.specs.Judgement.{judgeSource, judgeTarget, piecesOf, judgeNetwork}
 use Rattle.definitions.specs.Fields.{blank, lineEnd, fieldAt, decimal, nineColumns}
@@ -53,14 +57,24 @@ pub record AfterSession : Type 0 where
 unfoldable pub rectangleOf : List ℕ → Rectangle
 rectangleOf lengths i k = getD lengths (rowPlaces * i + k) 0
 
--- The buffers, the sizes and the number of calls, the lengths, the inequality. Only rows and columns in use are looked at.
-unfoldable pub judgeSession : ℕ → ℕ → ℕ → List ℕ → List ℕ → List ℕ → List ℕ → ℕ
-judgeSession rows cols count lengths calls answers kept =
-    let e = rectangleOf lengths in
-    firstCause (cond (hasPlaces rectanglePlaces lengths && (hasPlaces callPlaces calls && (hasPlaces answerPlaces answers && hasPlaces intervalPlaces kept))) 0 1
-    ∷ cond (within maxSide rows && (within maxSide cols && leb count maxCalls)) 0 4
+-- rows and columns within bounds
+unfoldable pub judgeSides : ℕ → ℕ → ℕ
+judgeSides rows cols = cond (within maxSide rows && within maxSide cols) 0 4
+
+-- The sizes, the lengths, the inequality. Only rows and columns in use are looked at.
+unfoldable pub judgeRectangle : ℕ → ℕ → Rectangle → ℕ
+judgeRectangle rows cols e =
+    firstCause (judgeSides rows cols
     ∷ cond (all (λ i. all (λ k. leb (e i k) maxLength) cols) rows) 0 6
     ∷ cond (isMonge e rows cols) 0 7
+    ∷ [])
+
+-- the buffers, the number of calls, the rectangle
+unfoldable pub judgeSession : ℕ → ℕ → ℕ → List ℕ → List ℕ → List ℕ → List ℕ → ℕ
+judgeSession rows cols count lengths calls answers kept =
+    firstCause (cond (hasPlaces rectanglePlaces lengths && (hasPlaces callPlaces calls && (hasPlaces answerPlaces answers && hasPlaces intervalPlaces kept))) 0 1
+    ∷ cond (leb count maxCalls) 0 4
+    ∷ judgeRectangle rows cols (rectangleOf lengths)
     ∷ [])
 
 -- call j of the lent numbers, three for each
@@ -130,6 +144,39 @@ pub buffer-fixed : (rows cols count : ℕ) (lengths calls answers kept : List �
 unfolding session
 buffer-fixed rows cols count lengths calls answers kept listed accepted same rise =
     rw (accepted, by-first-column-exactly (rectangleOf lengths) cols (trace (rectangleOf lengths) rows cols (callsOf calls count) .model) listed .1 (same, rise))
+
+-- ---- an index (document 02, request 5)
+
+-- what building it returns, and what stands in its buffer
+pub record AfterIndex : Type 0 where
+  pub number : ℕ
+  pub index : List ℕ
+
+-- the rectangle's buffer and the index's
+unfoldable pub judgeIndexBuffers : List ℕ → List ℕ → ℕ
+judgeIndexBuffers lengths index = cond (hasPlaces rectanglePlaces lengths && hasPlaces indexPlaces index) 0 1
+
+-- the buffers, then the rectangle as a session judges it
+unfoldable pub judgeIndex : ℕ → ℕ → List ℕ → List ℕ → ℕ
+judgeIndex rows cols lengths index = firstCause (judgeIndexBuffers lengths index ∷ judgeRectangle rows cols (rectangleOf lengths) ∷ [])
+
+-- a refusal leaves the buffer
+unfoldable pub buildIndex : ℕ → ℕ → List ℕ → List ℕ → AfterIndex
+buildIndex rows cols lengths index =
+    let cause = judgeIndex rows cols lengths index in
+    cond (eqb cause 0) (record { number = 0; index = indexOf (rectangleOf lengths) rows cols }) (record { number = cause; index = index })
+
+-- A question refuses buffers and sides as building does. Lengths and the inequality are not judged once more: that would take longer than the question.
+unfoldable pub judgeQuestion : ℕ → ℕ → List ℕ → List ℕ → ℕ
+judgeQuestion rows cols lengths index = firstCause (judgeIndexBuffers lengths index ∷ judgeSides rows cols ∷ [])
+
+-- The lowest column of least length of row i from `first` up to `end`, as the index has it. A row that is not there, a stretch that is empty and one that
+-- leaves the row get none.
+unfoldable pub askIndex : ℕ → ℕ → List ℕ → List ℕ → ℕ → ℕ → ℕ → Least
+askIndex rows cols lengths index i first end =
+    let cause = judgeQuestion rows cols lengths index in
+    let found = leastFound (ask cols (rectangleOf lengths i) index first end (indexRowPlaces * i) 0 cols) in
+    cond (eqb cause 0) (cond (ltb i rows && (ltb first end && leb end cols)) found Nothing) (Refused cause)
 
 -- ---- the labelling
 

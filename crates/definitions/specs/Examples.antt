@@ -1,13 +1,13 @@
 -- Document 01, "Depot examples": P1 to P12, rows of one table closed by one statement, by computation from the definitions. P7 to P11
 -- have the five numbers of document 02, request 3, for each interval; P9 lists its two in the order of request 2; the second half of P12 is that of request 1.
--- P13 to P18 are our own, for the questions with a target of request 4.
+-- P13 to P18 are our own, for the questions with a target of request 4; P19 to P22 for the index of request 5.
 use mathlib.Core.Path.{_≡_, refl}
 use mathlib.Core.List.{List, [], _∷_, _++_, map, flatMap}
 use Prim.Native.Nat.{ℕ, pred}
 use Prim.Native.Char.{code}
 use Prim.Native.String.{String, [] as empty, _∷_ as _before_}
 use lib.ListN.{getD, length, replicate}
-use Rattle.definitions.specs.Limits.{sizePlaces, vertexPlaces, lengthPlaces, rowPlaces, tablePlaces, labelPlaces, routePlaces, rectanglePlaces, callPlaces, answerPlaces, intervalPlaces, unreached, noTarget, unusedInterval}
+use Rattle.definitions.specs.Limits.{sizePlaces, vertexPlaces, lengthPlaces, rowPlaces, tablePlaces, labelPlaces, routePlaces, rectanglePlaces, indexRowPlaces, indexPlaces, callPlaces, answerPlaces, intervalPlaces, unreached, noTarget, unusedInterval}
 use Rattle.definitions.specs.Lists.{all, every, mem, different, total, upFrom, downTo, padded, within, firstCause}
 use Rattle.definitions.specs.Network.{entry, sizeOf}
 use Rattle.definitions.specs.Blocks.{splits, splitsOf, windows, windowsOf, rowsOf, columnsOf, Block, blockOf, blocksOf, blocksFrom, blocks, noBlock, passes}
@@ -15,12 +15,13 @@ use Rattle.definitions.specs.Monge.{corners, isMonge}
 use Rattle.definitions.specs.Best.{lesser, least, placed, leastFrom}
 use Rattle.definitions.specs.Intervals.{adjoins, joined, prepend, prependColumn, runs, sameInterval, isKept, noLater, putInOrder, byFirstColumn, countNew}
 use Rattle.definitions.specs.Model.{through, parent, available, intervals, isActivated, judge, activate, extract, step, extend, traceFrom, trace}
+use Rattle.definitions.specs.Index.{leastIn, columnOf, heldAt, rowIndex, indexOf, inStretch, heldIn, ask, leastAnswer}
 use Rattle.definitions.specs.Labelling.{freshBlock, apply, leastOf, placeOf, activateAt, activateVertex, labelOf, arcOf, settleAs, settle, chosen, placeIn, arcAt, arcInto, extractFrom, advance, steps, start, columns, labelling, reached, extractions, insertions, heldLabel, labels, arcsTo, routeTo}
 use Rattle.definitions.specs.Judgement.{judgeBounds, judgeSize, judgeVertices, judgeRow, judgeRows, judgeBlocks, judgeSource, judgeTarget, judgePiece, pieceAt, piecesOf, judgeFrom, judgeNetwork}
 use Rattle.definitions.specs.Fields.{isDigit, skipBlanks, isNumeral, numeralValue, fieldOf, fieldAt, lengthAt, digitsOf, decimal, rightJustified, nineColumns}
 use Rattle.definitions.specs.Reading.{Read, refused, value, Plan, readField, readFields, judgeLineEnd, readLine, readRows, readPiece, pieceBytes, readPieces, judgeEnd, targetIn, questionOf, questionSize, judgeAsked, readQuestion, readBody, readPlan, judgeLength, readText}
 use Rattle.definitions.specs.Text.{sizesOf, verticesOf, tableOf, lengthsOf}
-use Rattle.definitions.specs.Entries.{AfterRead, AfterLabel, AfterRoute, AfterSession, hasPlaces, judgeBuffers, heldTarget, afterRead, reading, judgeLabelling, labelAnswer, labelNetwork, judgeRoute, arcNumbers, arcsOf, routeAnswer, routeNetwork, rectangleOf, judgeSession, callAt, callsOf, answersOf, intervalsOf, session, listingLine, refusalLine, stateListing, routeListing, questionListing, planListing, listing}
+use Rattle.definitions.specs.Entries.{AfterRead, AfterLabel, AfterRoute, AfterSession, AfterIndex, hasPlaces, judgeBuffers, heldTarget, afterRead, reading, judgeLabelling, labelAnswer, labelNetwork, judgeRoute, arcNumbers, arcsOf, routeAnswer, routeNetwork, rectangleOf, judgeSides, judgeRectangle, judgeSession, judgeIndexBuffers, judgeIndex, buildIndex, judgeQuestion, askIndex, callAt, callsOf, answersOf, intervalsOf, session, listingLine, refusalLine, stateListing, routeListing, questionListing, planListing, listing}
 
 -- ---- the texts
 
@@ -69,6 +70,12 @@ pub data Example : Type 0 where
   block : List ℕ → ℕ → Example
   -- a session on two rows of two lengths, each call three numbers
   calls : List ℕ → List ℕ → List (List ℕ) → Example
+  -- the index of a rectangle, given by its rows
+  index : List (List ℕ) → Example
+  -- a question to that index: a row, a first column and an end
+  ask-built : List (List ℕ) → ℕ → ℕ → ℕ → Example
+  -- the same of other numbers than those that building leaves
+  ask-other : List (List ℕ) → List ℕ → ℕ → ℕ → ℕ → Example
   -- six bytes
   field : String → Example
 
@@ -87,6 +94,10 @@ pub data Shown : Type 0 where
   shows : List ℕ → List ℕ → List (List ℕ) → Shown
   -- a session's number, its answer buffer and its interval buffer, inserted and removed
   leaves : ℕ → List ℕ → List ℕ → ℕ → ℕ → Shown
+  -- the number that building returns, and the index
+  holds : ℕ → List ℕ → Shown
+  -- the code and the column of a question's answer
+  finds : ℕ → ℕ → Shown
   -- refused by a number
   refuses : ℕ → Shown
 
@@ -127,6 +138,22 @@ runSession row0 row1 ks =
 left : AfterSession → Shown
 left a = leaves (a .answer .number) (a .answers) (a .intervals) (a .answer .inserted) (a .answer .removed)
 
+-- a lent rectangle of these rows, and how many columns it has
+lentRows : List (List ℕ) → List ℕ
+lentRows rows = padded rectanglePlaces filler (flatMap (padded rowPlaces filler) rows)
+
+colsOf : List (List ℕ) → ℕ
+colsOf rows = length (getD rows 0 [])
+
+builtOf : List (List ℕ) → AfterIndex
+builtOf rows = buildIndex (length rows) (colsOf rows) (lentRows rows) (replicate indexPlaces filler)
+
+held : AfterIndex → Shown
+held a = holds (a .number) (a .index)
+
+answered : List (List ℕ) → List ℕ → ℕ → ℕ → ℕ → Shown
+answered rows numbers i first end = let r = leastAnswer (askIndex (length rows) (colsOf rows) (lentRows rows) numbers i first end) in finds (r .code) (r .column)
+
 pub run : Example → Shown
 run (program text) = writes (listing text)
 run (labelled text) = countsOf (readText text)
@@ -135,6 +162,9 @@ run (lent text) = listed (labelLent (readInto text))
 run (route text) = led (routeLent (readInto text))
 run (block text number) = blockIn number (readText text)
 run (calls row0 row1 ks) = left (runSession row0 row1 ks)
+run (index rows) = held (builtOf rows)
+run (ask-built rows i first end) = answered rows (builtOf rows .index) i first end
+run (ask-other rows numbers i first end) = answered rows numbers i first end
 run (field s) = refuses ((fieldOf (bytes s)) .number)
 
 -- ---- the table
@@ -172,6 +202,17 @@ depotFills first =
 -- what it leaves of a text that it refuses by a number
 refusedBy : ℕ → Shown
 refusedBy k = fills k 0 0 0 0 (replicate sizePlaces 0) (replicate vertexPlaces 0) (replicate lengthPlaces 0)
+
+-- one row of five columns, two of them equal
+fiveColumns : List (List ℕ)
+fiveColumns = (3 ∷ 1 ∷ 1 ∷ 2 ∷ 0 ∷ []) ∷ []
+
+-- P3's block, and P5's, which fails the check
+twoByTwo : List (List ℕ)
+twoByTwo = (5 ∷ 7 ∷ []) ∷ (6 ∷ 4 ∷ []) ∷ []
+
+failing : List (List ℕ)
+failing = (10 ∷ 7 ∷ []) ∷ (6 ∷ 4 ∷ []) ∷ []
 
 pub table : List Row
 table =
@@ -217,9 +258,24 @@ table =
     ∷ row 18 (read (chain "     1     3\n\n")) (refusedBy 3)
     ∷ row 18 (labelled (chain "     5     5     1\n")) (refuses 3)
     ∷ row 18 (labelled (chain "     5     5")) (refuses 3)
+    ∷ row 19 (index twoByTwo) (holds 0 (padded indexPlaces 0 (padded indexRowPlaces 0 (0 ∷ []) ++ (1 ∷ []))))
+    ∷ row 19 (index fiveColumns) (holds 0 (padded indexPlaces 0 (4 ∷ 1 ∷ 4 ∷ 4 ∷ [])))
+    ∷ row 19 (index failing) (holds 7 (replicate indexPlaces filler))
+    ∷ row 20 (ask-built fiveColumns 0 0 5) (finds 0 4)
+    ∷ row 20 (ask-built fiveColumns 0 0 4) (finds 0 1)
+    ∷ row 20 (ask-built fiveColumns 0 1 3) (finds 0 1)
+    ∷ row 20 (ask-built fiveColumns 0 2 4) (finds 0 2)
+    ∷ row 20 (ask-built fiveColumns 0 3 4) (finds 0 3)
+    ∷ row 21 (ask-built fiveColumns 0 2 2) (finds 50 0)
+    ∷ row 21 (ask-built fiveColumns 0 4 6) (finds 50 0)
+    ∷ row 21 (ask-built fiveColumns 1 0 5) (finds 50 0)
+    ∷ row 21 (ask-other fiveColumns [] 0 0 5) (finds 1 0)
+    ∷ row 21 (ask-other [] (replicate indexPlaces 0) 0 0 1) (finds 4 0)
+    ∷ row 22 (ask-other fiveColumns (padded indexPlaces 0 (9 ∷ 9 ∷ 0 ∷ 9 ∷ [])) 0 0 5) (finds 0 0)
+    ∷ row 22 (ask-other fiveColumns (padded indexPlaces 0 (9 ∷ 9 ∷ 0 ∷ 9 ∷ [])) 0 1 5) (finds 0 1)
     ∷ []
 
--- every row shows what document 01 says, from P7 on with requests 1 to 4 of document 02
+-- every row shows what document 01 says, from P7 on with requests 1 to 5 of document 02
 pub examples : map (λ r. run (r .example)) table ≡ map (λ r. r .shown) table
-unfolding bytes depotWith depot longLength longDiagonal chain depotFills refusedBy countsOf readInto filled labelLent listed routeLent led entriesOf blockIn runSession left run row activation extraction done onBlock table flatMap all every mem different total upFrom downTo padded within firstCause splits splitsOf windows windowsOf rowsOf columnsOf corners isMonge lesser least through parent available placed leastFrom adjoins joined prepend prependColumn runs intervals sameInterval isKept noLater putInOrder byFirstColumn countNew isActivated judge activate extract step extend traceFrom trace entry sizeOf blockOf blocksOf blocksFrom blocks passes freshBlock apply leastOf placeOf activateAt activateVertex labelOf arcOf settleAs settle chosen placeIn arcAt arcInto extractFrom advance steps start columns labelling reached extractions insertions heldLabel labels arcsTo routeTo judgeBounds judgeSize judgeVertices judgeRow judgeRows judgeBlocks judgeSource judgeTarget judgePiece pieceAt piecesOf judgeFrom judgeNetwork isDigit skipBlanks isNumeral numeralValue fieldOf fieldAt lengthAt readField readFields judgeLineEnd readLine readRows readPiece pieceBytes readPieces judgeEnd targetIn questionOf questionSize judgeAsked readQuestion readBody readPlan judgeLength readText sizesOf verticesOf tableOf lengthsOf hasPlaces judgeBuffers heldTarget afterRead reading judgeLabelling labelAnswer labelNetwork judgeRoute arcNumbers arcsOf routeAnswer routeNetwork rectangleOf judgeSession callAt callsOf answersOf intervalsOf session digitsOf decimal rightJustified nineColumns listingLine refusalLine stateListing routeListing questionListing planListing listing
+unfolding bytes depotWith depot longLength longDiagonal chain depotFills refusedBy countsOf readInto filled labelLent listed routeLent led entriesOf blockIn runSession left run row activation extraction done onBlock table flatMap all every mem different total upFrom downTo padded within firstCause splits splitsOf windows windowsOf rowsOf columnsOf corners isMonge lesser least through parent available placed leastFrom adjoins joined prepend prependColumn runs intervals sameInterval isKept noLater putInOrder byFirstColumn countNew isActivated judge activate extract step extend traceFrom trace entry sizeOf blockOf blocksOf blocksFrom blocks passes freshBlock apply leastOf placeOf activateAt activateVertex labelOf arcOf settleAs settle chosen placeIn arcAt arcInto extractFrom advance steps start columns labelling reached extractions insertions heldLabel labels arcsTo routeTo judgeBounds judgeSize judgeVertices judgeRow judgeRows judgeBlocks judgeSource judgeTarget judgePiece pieceAt piecesOf judgeFrom judgeNetwork isDigit skipBlanks isNumeral numeralValue fieldOf fieldAt lengthAt readField readFields judgeLineEnd readLine readRows readPiece pieceBytes readPieces judgeEnd targetIn questionOf questionSize judgeAsked readQuestion readBody readPlan judgeLength readText sizesOf verticesOf tableOf lengthsOf hasPlaces judgeBuffers heldTarget afterRead reading judgeLabelling labelAnswer labelNetwork judgeRoute arcNumbers arcsOf routeAnswer routeNetwork rectangleOf judgeSides judgeRectangle judgeSession judgeIndexBuffers judgeIndex buildIndex judgeQuestion askIndex lentRows colsOf builtOf held answered fiveColumns twoByTwo failing leastIn columnOf heldAt rowIndex indexOf inStretch heldIn ask callAt callsOf answersOf intervalsOf session digitsOf decimal rightJustified nineColumns listingLine refusalLine stateListing routeListing questionListing planListing listing
 examples = refl

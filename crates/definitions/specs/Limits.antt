@@ -87,6 +87,13 @@ intervalSize = 5
 abbrev pub rectanglePlaces : ℕ
 rectanglePlaces = maxSide * rowPlaces
 
+-- (02, request 5) The index of a rectangle, 552 places: one fewer for each row than it has columns.
+abbrev pub indexRowPlaces : ℕ
+indexRowPlaces = rowPlaces - 1
+
+abbrev pub indexPlaces : ℕ
+indexPlaces = maxSide * indexRowPlaces
+
 abbrev pub callPlaces : ℕ
 callPlaces = callSize * maxCalls
 

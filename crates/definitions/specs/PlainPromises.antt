@@ -1,6 +1,7 @@
 -- What the session, the labelling and the route promise in plain terms, beside their equations with `session`, `labelNetwork` and `routeNetwork` of the file
 -- `Entries`.
 --   PlainSession   the intervals that an accepted session keeps and their bests, its counts, and what its extractions answer
+--   PlainLeast     what a question to an index as built answers: document 02, request 5
 --   PlainLabels    the labels of an accepted network, demand 2, and the counts
 --   PlainRoute     the arcs to a target of an accepted network: document 02, request 4
 use mathlib.Core.Path.{_≡_}
@@ -13,12 +14,15 @@ use lib.ListN.{getD, length}
 use Rattle.definitions.specs.declared.LabelAnswer.{LabelAnswer}
 use Rattle.definitions.specs.declared.RouteAnswer.{RouteAnswer}
 use Rattle.definitions.specs.declared.SessionAnswer.{SessionAnswer}
+use Rattle.definitions.specs.declared.Least.{Least}
+use Rattle.definitions.specs.declared.Least.the-variants.{Column, Nothing}
 use Rattle.definitions.specs.Limits.{maxLabel, labelPlaces, unreached}
 use Rattle.definitions.specs.Lists.{Every, count}
 use Rattle.definitions.specs.Network.{Distance, RouteArc, Routed}
 use Rattle.definitions.specs.Blocks.{weight}
 use Rattle.definitions.specs.Intervals.{Interval, Rising, Distinct, FirstsRise}
 use Rattle.definitions.specs.Model.{fresh, intervals, Listed, HasBest, trace, AllExtractLeast, allowances}
+use Rattle.definitions.specs.Index.{IsLeast}
 use Rattle.definitions.specs.Judgement.{piecesOf}
 use Rattle.definitions.specs.Entries.{rectangleOf, callsOf, answersIn, intervalsOf, arcsOf}
 
@@ -42,6 +46,13 @@ pub record PlainSession (rows cols count : ℕ) (lengths calls : List ℕ) (r : 
   pub few : r .inserted ≤ allowances (callsOf calls count) (answersIn answers count)
   -- each extraction answers that nothing is left exactly if there is no interval where its turn comes, else the least sum left and the lowest column of it
   pub least : AllExtractLeast (rectangleOf lengths) rows cols fresh (callsOf calls count) (answersIn answers count)
+
+-- A stretch of a row of the rectangle gets the lowest column of least length there; one that is empty or leaves the row, or a row that is not there, gets none.
+pub record PlainLeast (rows cols : ℕ) (lengths : List ℕ) (i first end : ℕ) (r : Least) : Type 0 where
+  pub some : i < rows → first < end → end ≤ cols → (c : ℕ) × (r ≡ Column c) × IsLeast (rectangleOf lengths i) first end c
+  pub no-row : rows ≤ i → r ≡ Nothing
+  pub empty : end ≤ first → r ≡ Nothing
+  pub leaves : cols < end → r ≡ Nothing
 
 -- The labels are distances and at most `maxLabel`, places above n are unreached, and the counts are bounded by the sum over the pieces of m·⌈log₂ m⌉.
 pub record PlainLabels (n p : ℕ) (sizes vertices lengths : List ℕ) (source : ℕ) (r : LabelAnswer) (after : List ℕ) : Type 0 where

@@ -60,7 +60,8 @@
 --   Climbing Decreasing   every word is right but perhaps one; and that one once the new key is let in
 --   AtLevel               where a climb of all levels stands
 --
--- A session: its buffers against the definition's trace (`PlainPromises` and `CallChains` of the definitions, `Session/Whole`, `Session/SessionChain`, `Session/Judged`)
+-- A session: its buffers against the definition's trace (`PlainPromises` and `CallChains` of the definitions, `Session/Whole`, `Session/SessionChain`, `Session/Judged`,
+-- and of the crate `rectangles` `RectangleJudgement`)
 --   PlainSession          what an accepted session returns and leaves, in plain terms
 --   ServeNeeds Leaves     a checked rectangle and buffers that hold its calls; counts, answers and intervals are those of the trace
 --   Ran                   what `run_calls` leaves: words and counts agree with the trace, and the answers stand at the front of their buffer
@@ -72,15 +73,16 @@
 --   Accepted Sizes Sides  what a session that is not turned away may rely on; its buffers, its numbers
 --   Front                 so many numbers at each of the first places of a buffer, the rest as it was
 --
--- The heap of one block: its words against the model (`HeldModel` of the definitions, `Heap/HeapCalls`, `Heap/LeastColumn`, `Heap/RowBest`, `Heap/Holds`)
---   Checked Holds HoldsSome    the block that is lent is checked; the words hold a given model of it; some model
+-- The heap of one block: its words against the model (`HeldModel` and `Index` of the definitions, `Heap/HeapCalls`, `Heap/LeastColumn`, `Heap/RowBest`, `Heap/Holds`)
+--   Checked Holds         the block that is lent is checked; the words hold a given model of it
 --   ActivateGiven ActivateNeeds Leaves    the model is held, and the activation is not refused; for some model; the next model is held, for every model
 --   MinExtracted ExtractMinLeaves    the column of least sum is extracted and answered, with its parent; for every model
 --   ParentIs              the parent of a column that is handed out
 --   Becomes               the words hold the next model, and so many intervals are inserted and removed
 --   RowActivated Falls    the next model is held, and the least sum falls as is returned
 --   LeastLeaves Keeps     the least of the bests; of the intervals so far
---   IsBest RowBest StretchFits    the lowest column of least length on a stretch of a row; an interval carries the best of its stretch; a stretch that can be read
+--   IsLeast HasIndex      the lowest column of least length on a stretch of a row; the index that is asked for it
+--   RowBest StretchFits   an interval carries the best of its stretch; a stretch that can be read
 --   PutFirstLeaves        one interval with all columns
 --   PutWonNeeds Leaves    the columns that are won, with room for the row's interval; it stands in their place
 --   Owned Where           the parent and the sum of a column of an interval; a column lies in an interval, or nobody has it

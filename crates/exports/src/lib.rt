@@ -1,11 +1,18 @@
-// The entries for C and Rust, as one static library. Each promises what the entry that it calls promises; the field reader's value goes to a lent buffer,
-// since an enum does not cross to C.
+// The entries for C and Rust, as one static library. Each promises what the entry that it calls promises. An enum does not cross to C: the field reader's value
+// goes to a lent buffer, and what an index answers to a struct.
 ghost use mathlib.Core.Path.{_≡_};
-ghost use Rattle.definitions.specs.Entries.{reading, labelNetwork, routeNetwork, session, writeField, writeListing, judgeLent, fieldEntry};
-ghost use Rattle.definitions.specs.PlainPromises.{PlainSession, PlainLabels, PlainRoute};
+ghost use mathlib.Core.List.{List};
+ghost use Prim.Native.Nat.{ℕ};
+ghost use Rattle.definitions.specs.declared.Least.{Least};
+ghost use Rattle.definitions.specs.Entries.{reading, labelNetwork, routeNetwork, session, writeField, writeListing, judgeLent, fieldEntry, buildIndex, askIndex};
+ghost use Rattle.definitions.specs.Index.{leastAnswer};
+ghost use Rattle.definitions.specs.PlainPromises.{PlainSession, PlainLeast, PlainLabels, PlainRoute};
 use bounds::Cause;
+use bounds::Code;
 use definitions::Field;
 use definitions::LabelAnswer;
+use definitions::Least;
+use definitions::LeastAnswer;
 use definitions::ReadAnswer;
 use definitions::RouteAnswer;
 use definitions::SessionAnswer;
@@ -74,6 +81,48 @@ pub extern "C" fn rabdzhine_run_session(
     ensures plain { λ r. ⌜ (r .number ≡ 0 → PlainSession rows cols count (now (lengths .entry)) (now (calls .entry)) r (now (answers .exit)) (now (intervals .exit))) ⌝ }
 {
     engine::run_session(rows, cols, count, lengths, calls, answers, intervals)
+}
+
+#[no_mangle]
+pub extern "C" fn rabdzhine_build_index(
+    rows: u32,
+    cols: u32,
+    lengths: &[u32],
+    index: &mut [u8],
+) -> u32
+    ensures { λ r. ⌜ record { number = r; index = now (index .exit) } ≡ buildIndex rows cols (now (lengths .entry)) (now (index .entry)) ⌝ }
+{
+    index::build_index(rows, cols, lengths, index)
+}
+
+#[no_mangle]
+pub extern "C" fn rabdzhine_ask_index(
+    rows: u32,
+    cols: u32,
+    lengths: &[u32],
+    index: &[u8],
+    row: u32,
+    first: u32,
+    end: u32,
+) -> LeastAnswer
+    ensures asked { λ r. ⌜ r ≡ leastAnswer (askIndex rows cols (now (lengths .entry)) (now (index .entry)) row first end) ⌝ }
+    ensures plain { λ r. ⌜ ((before : List ℕ) → buildIndex rows cols (now (lengths .entry)) before .number ≡ 0 → now (index .entry) ≡ buildIndex rows cols (now (lengths .entry)) before .index → (l : Least) × (r ≡ leastAnswer l) × PlainLeast rows cols (now (lengths .entry)) row first end l) ⌝ }
+{
+    let least = index::ask_index(rows, cols, lengths, index, row, first, end);
+    match least {
+        Least::Column(column) => LeastAnswer {
+            code: Code::DONE,
+            column,
+        },
+        Least::Nothing => LeastAnswer {
+            code: Code::NOTHING,
+            column: 0,
+        },
+        Least::Refused(number) => LeastAnswer {
+            code: number,
+            column: 0,
+        },
+    }
 }
 
 #[no_mangle]

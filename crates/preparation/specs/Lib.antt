@@ -8,4 +8,7 @@ pub mod Parts
 pub mod Tables
 pub mod Stretches
 pub mod BlockRows
+pub mod BlockIndex
+pub mod BlocksApart
+pub mod FilledBlocks
 pub mod PreparationTheorems

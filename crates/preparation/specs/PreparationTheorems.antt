@@ -7,6 +7,7 @@
 --   the-numbers the-others                              all of these in the one array of tables
 --   the-piece first-window second-window first-half second-half    the blocks of a place, by the halving
 --   its-row no-row no-vertex elsewhere                  who is a row of a block
+--   the-index                                           the rows of each block hold its index
 -- Blocks are numbered from 0 here, pieces too. `Fits p sizes vertices` says that there are at most 16 pieces, none larger than 24, and that
 -- the buffer of the vertices has its size.
 use mathlib.Core.Path.{_≡_, _∙_}
@@ -15,7 +16,7 @@ use mathlib.Core.List.{List}
 use mathlib.Core.Option.{none, some}
 use Prim.Native.Nat.{ℕ, suc, pred, _+_, _-_, _*_, _/_, _≤_, _<_}
 use native.Mathlib.Omega.{arith}
-use lib.ListN.{getD, length, take}
+use lib.ListN.{getD, length, take, drop}
 use Rattle.definitions.specs.Limits.{maxVertices, maxPieces, maxSize, rowPlaces, vertexPlaces}
 use Rattle.definitions.specs.Network.{Piece, sizeOf, noPiece}
 use Rattle.definitions.specs.Blocks.{Window, windowsOf, Block, noBlock, blockOf, blocks}
@@ -31,6 +32,9 @@ use Rattle.preparation.specs.PlaceTable.{StandsAt, Next, all-linked}
 use Rattle.preparation.specs.Parts.{block-count, block-of, row-at, slots-apart, slots-end, rows-in, cols-in, cols-are, rows-are, sides-in, entry-is, row-vertex-is, column-is}
 use Rattle.preparation.specs.Tables.{NumbersSame, numbers-same, start-in, next-in, first-in, size-in, vertex-in}
 use Rattle.preparation.specs.Stretches.{forth, back, Stretch, stretch-whole, stretch-first, stretch-second, stretch-left, stretch-right}
+use Rattle.index.specs.HeldRows.{Indexed}
+use Rattle.preparation.specs.BlockIndex.{noIndex, filledBlocks}
+use Rattle.preparation.specs.FilledBlocks.{none-tall, none-long, blocks-indexed, blocks-tall}
 use Rattle.preparation.specs.BlockRows.{row-inside, row-outside, row-absent, row-elsewhere}
 
 -- block b of the network
@@ -127,6 +131,22 @@ module _ (p : ℕ) (sizes vertices : List ℕ) where
       × ((d : ℕ) → d < maxPieces → sizeIn (tablesOf p sizes vertices) d ≡ sizeAt p sizes d)
       × ((i : ℕ) → i < vertexPlaces → vertexIn (tablesOf p sizes vertices) i ≡ getD vertices i 0)
   the-others = (first-in p sizes vertices, size-in p sizes vertices, vertex-in p sizes vertices)
+
+-- ---- the index
+
+-- Filled into an array of zeros, the index of the rows of all blocks holds for each block that of its columns.
+module _ (p : ℕ) (sizes vertices lengths : List ℕ) (fits : Fits p sizes vertices) where
+  abbrev tables : List ℕ
+  tables = tablesOf p sizes vertices
+
+  pub the-index : (b : ℕ) → b < length (blocks (piecesOf p sizes vertices lengths))
+      → Indexed (take (rowCountIn tables b) (drop (rowIn tables b) (filledBlocks noIndex (matrixOf lengths) tables))) (take (rowCountIn tables b) (drop (rowIn tables b) (matrixOf lengths)))
+      (colIn tables b) (colsIn tables b)
+  the-index b l =
+      blocks-indexed p sizes vertices lengths fits noIndex none-tall none-long b (omega (arith, block-count p sizes vertices lengths fits)) (omega (arith, the-count p sizes vertices lengths fits))
+
+  pub index-tall : length (filledBlocks noIndex (matrixOf lengths) tables) ≡ vertexPlaces
+  index-tall = blocks-tall p sizes vertices lengths fits noIndex none-tall none-long
 
 -- ---- the halving
 

@@ -9,7 +9,8 @@ ghost use Rattle.definitions.specs.Limits.{maxSize, sizePlaces, vertexPlaces, r
 ghost use Rattle.definitions.specs.Blocks.{allSplits};
 ghost use Rattle.definitions.specs.HeapWords.{heapWords};
 ghost use Rattle.splits.specs.Table.{flattened, splitOf};
-ghost use Rattle.preparation.specs.Prepared.{sizeAt, matrixRow, matrixOf, filledMatrix, storePlace, storePlaces, placesOf, splitPlacements, piecePlacements, partNumbers, pieceBlocks, maxWords, splitWords, placeCount, partPlaces, Stored, partsOf, firstsOf, sizesOf, verticesOf, tableCount, tablesOf, filledTables};
+ghost use Rattle.preparation.specs.Prepared.{sizeAt, matrixRow, matrixOf, filledMatrix, storePlace, storePlaces, placesOf, splitPlacements, piecePlacements, partNumbers, pieceBlocks, maxBlocks, maxWords, splitWords, placeCount, partPlaces, Stored, partsOf, firstsOf, sizesOf, verticesOf, tableCount, tablesOf, filledTables};
+ghost use Rattle.preparation.specs.BlockIndex.{filledBlock, filledUpTo, filledBlocks};
 use bounds::Network;
 use bounds::Session;
 use buffers::fill;
@@ -398,4 +399,70 @@ pub fn fill_tables(tables: &mut [u32], p: u32, sizes: &[u32], vertices: &[u32])
     }
     fill(tables, 0);
     store_tables(tables, p, sizes, vertices);
+}
+
+// ---- the index of the blocks
+
+// The index of the rows of block b. One column needs none, and a block whose rows leave the arrays is left out.
+fn fill_block(
+    index: &mut [[u8; Network::INDEX_PLACES]],
+    matrix: &[[u32; Network::ROW_PLACES]],
+    tables: &[u32],
+    b: usize,
+)
+    requires { ⌜ (b < maxBlocks) × (length (now tables) ≡ tableCount) ⌝ }
+    ensures { λ _. ⌜ now (index .exit) ≡ filledBlock (now (matrix .entry)) (now (tables .entry)) (now (index .entry)) b ⌝ }
+{
+    let at = Prepared::PART * b;
+    let cols = tables[at + Prepared::COLS] as usize;
+    if cols < 2 {
+        return;
+    }
+    let top = tables[at + Prepared::TOP] as usize;
+    let bottom = top + tables[at + Prepared::ROWS] as usize;
+    if bottom > index.len() {
+        return;
+    }
+    if bottom > matrix.len() {
+        return;
+    }
+    let col0 = tables[at + Prepared::COL0] as usize;
+    index::fill_index(&mut index[top..bottom], &matrix[top..bottom], col0, cols);
+}
+
+// The blocks one after the other.
+fn fill_blocks(
+    index: &mut [[u8; Network::INDEX_PLACES]],
+    matrix: &[[u32; Network::ROW_PLACES]],
+    tables: &[u32],
+)
+    requires { ⌜ length (now tables) ≡ tableCount ⌝ }
+    ensures { λ _. ⌜ now (index .exit) ≡ filledUpTo (now (matrix .entry)) (now (tables .entry)) (now (index .entry)) maxBlocks ⌝ }
+{
+    let mut b = 0;
+    while b < Prepared::BLOCKS {
+        fill_block(index, matrix, tables, b);
+        b += 1;
+    }
+}
+
+// The index of the rows of all blocks, from the numbers of the blocks in the tables; the rest of the index stays. No two blocks have a row and a column in common, so
+// that each keeps its places. Arrays of another size leave the index as it is.
+pub fn fill_index(
+    index: &mut [[u8; Network::INDEX_PLACES]],
+    matrix: &[[u32; Network::ROW_PLACES]],
+    tables: &[u32],
+)
+    ensures { λ _. ⌜ now (index .exit) ≡ filledBlocks (now (index .entry)) (now (matrix .entry)) (now (tables .entry)) ⌝ }
+{
+    if index.len() != Network::VERTEX_PLACES {
+        return;
+    }
+    if matrix.len() != Network::VERTEX_PLACES {
+        return;
+    }
+    if tables.len() != Prepared::TABLES {
+        return;
+    }
+    fill_blocks(index, matrix, tables);
 }

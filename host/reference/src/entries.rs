@@ -1,10 +1,11 @@
 //! What each entry of the library returns and leaves in its buffers, with the library's own arguments.
 
+use crate::index;
 use crate::model::{label_plan, Model};
 use crate::network::{is_monge, judge_places, judge_question, Lent, Plan};
 use crate::network::{
-    ANSWERS, ARC_SIZE, CALLS, COLUMNS, INTERVALS, INTERVAL_SIZE, LABELS, LINE, LISTING, RECTANGLE, ROOM,
-    ROUTE_PLACES,
+    ANSWERS, ARC_SIZE, CALLS, COLUMNS, INDEX, INDEX_ROW, INTERVALS, INTERVAL_SIZE, LABELS, LINE, LISTING,
+    RECTANGLE, ROOM, ROUTE_PLACES,
 };
 use crate::network::{MAX_CALLS, MAX_LENGTH, MAX_SIZE, NO_TARGET};
 use crate::number_of;
@@ -100,20 +101,39 @@ pub fn route_network(lent: &Lent, source: u32, target: u32, arcs: &mut [u32]) ->
     }
 }
 
-fn judge_session(rows: u32, cols: u32, count: u32, lengths: &[u32]) -> Result<Model, u32> {
+/// Cause 4, of rows and columns.
+fn judge_sides(rows: u32, cols: u32) -> Result<(), u32> {
     let bounds = 1..=MAX_SIZE;
-    if !bounds.contains(&rows) || !bounds.contains(&cols) || count > MAX_CALLS {
+    if !bounds.contains(&rows) || !bounds.contains(&cols) {
         return Err(4);
     }
+    Ok(())
+}
+
+/// The rows that are used of a lent rectangle whose sides are within bounds.
+fn rows_of(rows: u32, cols: u32, lengths: &[u32]) -> Vec<Vec<u32>> {
     let row = |i: usize| lengths[ROOM * i..][..cols as usize].to_vec();
-    let rectangle: Vec<Vec<u32>> = (0..rows as usize).map(row).collect();
+    (0..rows as usize).map(row).collect()
+}
+
+/// The rectangle, or cause 4, 6 or 7.
+fn judge_rectangle(rows: u32, cols: u32, lengths: &[u32]) -> Result<Vec<Vec<u32>>, u32> {
+    judge_sides(rows, cols)?;
+    let rectangle = rows_of(rows, cols, lengths);
     if rectangle.iter().flatten().any(|&l| l > MAX_LENGTH) {
         return Err(6);
     }
     if !is_monge(&rectangle) {
         return Err(7);
     }
-    Ok(Model::new(rectangle))
+    Ok(rectangle)
+}
+
+fn judge_session(rows: u32, cols: u32, count: u32, lengths: &[u32]) -> Result<Model, u32> {
+    if count > MAX_CALLS {
+        return Err(4);
+    }
+    Ok(Model::new(judge_rectangle(rows, cols, lengths)?))
 }
 
 /// What a place that no interval uses holds.
@@ -149,6 +169,51 @@ pub fn run_session(
         places.copy_from_slice(interval);
     }
     [0, model.inserted, model.removed]
+}
+
+/// Cause 1, of a rectangle and its index.
+fn judge_index_places(lengths: &[u32], held: &[u8]) -> Result<(), u32> {
+    if [lengths.len(), held.len()] != [RECTANGLE, INDEX] {
+        return Err(1);
+    }
+    Ok(())
+}
+
+/// The number of the cause. If there is none, `held` gets the index of each row, and 0 in the places that are not used.
+pub fn build_index(rows: u32, cols: u32, lengths: &[u32], held: &mut [u8]) -> u32 {
+    let judged = judge_index_places(lengths, held).and_then(|_| judge_rectangle(rows, cols, lengths));
+    if let Ok(rectangle) = &judged {
+        held.fill(0);
+        for (places, row) in held.chunks_mut(INDEX_ROW).zip(rectangle) {
+            places[..row.len() - 1].copy_from_slice(&index::of_row(row));
+        }
+    }
+    number_of(judged)
+}
+
+/// What a question without an answer gets.
+const NONE: u32 = 50;
+
+/// code, column
+pub fn ask_index(
+    rows: u32,
+    cols: u32,
+    lengths: &[u32],
+    held: &[u8],
+    row: u32,
+    first: u32,
+    end: u32,
+) -> [u32; 2] {
+    if let Err(number) = judge_index_places(lengths, held).and_then(|_| judge_sides(rows, cols)) {
+        return [number, 0];
+    }
+    if row >= rows || first >= end || end > cols {
+        return [NONE, 0];
+    }
+    let lengths = &lengths[ROOM * row as usize..][..cols as usize];
+    let held = &held[INDEX_ROW * row as usize..][..INDEX_ROW];
+    let found = index::ask(lengths, held, first as usize..end as usize);
+    [0, found.expect("a column was asked for") as u32]
 }
 
 /// How many bytes of `out` the listing takes, from the front.

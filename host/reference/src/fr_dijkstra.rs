@@ -11,9 +11,11 @@
 //! - a tournament tree of keys, made of sum and block, gives the block;
 //! - the labels of the rows are shared by all blocks of a piece.
 //!
-//! The proved one has this design but for three things. In the activation it tests the two columns beside the new row's place first, and
-//! then finds both ends of the columns won by halving, over the intervals and over the columns of one. It keeps how many intervals
-//! there are, and whether a row is activated, among the words of the heap. And it stores the arc that each vertex was settled by.
+//! The proved one has this design but for four things. It scans no columns: beside each row of the matrix stands an index of its columns,
+//! built before the labelling, and the best of an interval is asked of it (document 02, request 5). In the activation it tests the two
+//! columns beside the new row's place first, and then finds both ends of the columns won by halving, over the intervals and over the
+//! columns of one. It keeps how many intervals there are, and whether a row is activated, among the words of the heap. And it stores the
+//! arc that each vertex was settled by.
 
 use crate::model::UNREACHED;
 use crate::network::{

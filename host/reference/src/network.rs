@@ -32,6 +32,10 @@ pub const LENGTHS: usize = SIZES * ROOM * ROOM;
 pub const LABELS: usize = MAX_VERTICES as usize;
 /// Places of a session's rectangle.
 pub const RECTANGLE: usize = ROOM * ROOM;
+/// Places of the index of one row: one fewer than the columns that it has room for.
+pub const INDEX_ROW: usize = ROOM - 1;
+/// Places of a rectangle's index.
+pub const INDEX: usize = ROOM * INDEX_ROW;
 /// Places of a session's calls: kind, row and label of each.
 pub const CALLS: usize = 3 * MAX_CALLS as usize;
 /// Places of a session's answers: code, column and sum of each.

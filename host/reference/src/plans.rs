@@ -91,6 +91,15 @@ pub fn rectangle(rows: usize, columns: usize, kind: Kind, rng: &mut Rng) -> Vec<
     }
 }
 
+/// A rectangle as it is lent, every place not used holding `unused`.
+pub fn lent_rectangle<R: AsRef<[u32]>>(rectangle: &[R], unused: u32) -> Vec<u32> {
+    let mut lengths = vec![unused; RECTANGLE];
+    for (places, row) in lengths.chunks_mut(ROOM).zip(rectangle) {
+        places[..row.as_ref().len()].copy_from_slice(row.as_ref());
+    }
+    lengths
+}
+
 /// Entry (i, k) is a term of row i, a term of column k, and the steps at the rows up to i and the columns after k. Terms are at most
 /// `term`; one place in `rare` has a step, at most `step`.
 fn steps(rows: usize, columns: usize, term: u32, step: u32, rare: u32, rng: &mut Rng) -> Vec<Vec<u32>> {
@@ -332,10 +341,7 @@ pub fn session(kind: Kind, unused: u32, rng: &mut Rng) -> Session {
     let (rows, columns) = (rng.pick(&sides), rng.pick(&sides));
     let count = rng.pick(&[0, 1, 10, 40, 63, 64, 64]);
     let e = rectangle(rows, columns, kind, rng);
-    let mut lengths = vec![unused; RECTANGLE];
-    for (i, row) in e.iter().enumerate() {
-        lengths[ROOM * i..][..columns].copy_from_slice(row);
-    }
+    let lengths = lent_rectangle(&e, unused);
     let mut model = Model::new(e);
     let mut calls = vec![unused; CALLS];
     for call in calls.chunks_mut(3).take(count) {

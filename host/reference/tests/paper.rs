@@ -1,16 +1,19 @@
-//! The model against documents 01 and 02: the depot examples, the best of an interval, routes, and the causes that the papers name.
+//! The model against documents 01 and 02: the depot examples, the best of an interval, routes, the index of a block, and the causes that the
+//! papers name.
 
 use reference::damage::{chain_and, depot_asked, depot_with, long_lengths, text, texts};
 use reference::damage::{CHAIN_LISTING, CHAIN_QUESTION, DEPOT, DEPOT_LISTING};
+use reference::entries::{ask_index, build_index};
 use reference::entries::{check_network, label_network, read_text, route_network, run_session};
+use reference::index;
 use reference::model::{label_plan, Model, MAX_LABEL, UNREACHED};
 use reference::network::{is_monge, Lent};
 use reference::network::{
-    ANSWERS, ARC_SIZE, CALLS, INTERVALS, LABELS, LENGTHS, LINE, LISTING, MAX_ARCS, MAX_LENGTH, NO_TARGET,
-    RECTANGLE, ROOM, ROUTE_PLACES, SIZES, VERTICES,
+    ANSWERS, ARC_SIZE, CALLS, INDEX, INDEX_ROW, INTERVALS, LABELS, LENGTHS, LINE, LISTING, MAX_ARCS,
+    MAX_LENGTH, NO_TARGET, RECTANGLE, ROOM, ROUTE_PLACES, SIZES, VERTICES,
 };
 use reference::number_of;
-use reference::plans::{path, Rng};
+use reference::plans::{lent_rectangle, path, Rng};
 use reference::text::{field, listing, read, write};
 
 #[test]
@@ -198,6 +201,68 @@ fn the_arc_of_equal_sums() {
     assert_eq!(route_lent(&twice).1, arcs_in_buffer(&[[1, 2, 1, 5]]));
 }
 
+/// Document 02, request 5: the whole row, then all of its first half, then its second.
+#[test]
+fn the_index_of_a_row() {
+    assert_eq!(index::of_row(&[5]), []);
+    assert_eq!(index::of_row(&[5, 7]), [0]);
+    // 0..5, 0..2, 2..5, 3..5: of an odd number the second half has one more
+    let row = [3, 1, 2, 1, 1];
+    let held = index::of_row(&row);
+    assert_eq!(held, [1, 1, 3, 3]);
+    for end in 1..=row.len() {
+        for first in 0..end {
+            assert_eq!(index::ask(&row, &held, first..end), index::scan(&row, first..end));
+        }
+    }
+}
+
+/// A held number that is no column of its stretch counts as the first one of it; any other counts, though a lesser one is there.
+#[test]
+fn any_bytes_are_asked() {
+    let row = [9, 8, 7, 6];
+    assert_eq!(index::ask(&row, &[4, 2, 1], 0..4), Some(0));
+    assert_eq!(index::ask(&row, &[4, 2, 1], 0..2), Some(0));
+    assert_eq!(index::ask(&row, &[4, 2, 1], 2..4), Some(2));
+    assert_eq!(index::ask(&row, &[4, 2, 1], 1..4), Some(2));
+    assert_eq!(index::ask(&row, &[2, 255, 255], 0..4), Some(2));
+    assert_eq!(index::ask(&row, &[255; 3], 3..4), Some(3));
+}
+
+#[test]
+fn an_index_is_judged_in_the_stated_order() {
+    let lengths = lent_rectangle(&[[5, 7], [6, 4]], 7);
+    let with = |place: usize, length: u32| {
+        let mut lengths = lengths.clone();
+        lengths[place] = length;
+        lengths
+    };
+    let mut held = [7; INDEX];
+    assert_eq!(build_index(0, 2, &lengths[1..], &mut held), 1);
+    assert_eq!(build_index(0, 2, &lengths, &mut held[1..]), 1);
+    assert_eq!(build_index(0, 2, &with(0, u32::MAX), &mut held), 4);
+    assert_eq!(build_index(2, 25, &lengths, &mut held), 4);
+    assert_eq!(build_index(2, 2, &with(0, 1_000_000), &mut held), 6);
+    assert_eq!(build_index(2, 2, &with(1, 2), &mut held), 7);
+    assert_eq!(held, [7; INDEX]);
+    assert_eq!(build_index(2, 2, &lengths, &mut held), 0);
+    assert_eq!((held[0], held[INDEX_ROW]), (0, 1));
+    assert_eq!(held.iter().filter(|&&x| x != 0).count(), 1);
+    let ask = |lengths: &[u32], [rows, cols, row, first, end]: [u32; 5]| {
+        ask_index(rows, cols, lengths, &held, row, first, end)
+    };
+    assert_eq!(ask(&lengths[1..], [0, 2, 0, 0, 1]), [1, 0]);
+    assert_eq!(ask_index(0, 2, &lengths, &held[1..], 0, 0, 1), [1, 0]);
+    assert_eq!(ask(&lengths, [0, 2, 0, 0, 1]), [4, 0]);
+    assert_eq!(ask(&lengths, [2, 25, 2, 0, 1]), [4, 0]);
+    assert_eq!(ask(&lengths, [2, 2, 1, 0, 2]), [0, 1]);
+    for [row, first, end] in [[2, 0, 1], [0, 1, 1], [0, 2, 1], [0, 0, 3], [u32::MAX; 3]] {
+        assert_eq!(ask(&lengths, [2, 2, row, first, end]), [50, 0]);
+    }
+    // lengths are not judged once more
+    assert_eq!(ask(&with(0, u32::MAX), [2, 2, 0, 0, 2]), [0, 0]);
+}
+
 #[test]
 fn the_longest_route_fills_buffer_and_listing() {
     let bytes = write(&path(&mut Rng::new(1)));
@@ -212,6 +277,7 @@ fn sizes_and_bounds_are_the_stated_ones() {
     assert_eq!([SIZES, VERTICES, LENGTHS, LABELS], [16, 384, 9_216, 256]);
     assert_eq!([RECTANGLE, CALLS, ANSWERS, INTERVALS], [576, 192, 192, 120]);
     assert_eq!([MAX_ARCS, ARC_SIZE, ROUTE_PLACES], [255, 4, 1_020]);
+    assert_eq!([INDEX_ROW, INDEX], [23, 552]);
     assert_eq!([LINE, LISTING], [36, 9_472]);
     assert_eq!([MAX_LENGTH, MAX_LABEL], [999_999, 254_999_745]);
 }

@@ -1,6 +1,9 @@
-//! The model against the outside vectors of the program `labels`, which share nothing with it.
+//! The model against the outside vectors of the program `labels` and of the index, which share nothing with it.
 
+use reference::entries::{ask_index, build_index};
+use reference::network::INDEX;
 use reference::text::listing;
+use reference::vectors::{of_the_index, Asked};
 use std::fs;
 use std::path::Path;
 
@@ -13,5 +16,20 @@ fn stored_texts_are_listed_as_stored() {
     for text in texts {
         let stored = fs::read(text.with_extension("out")).expect("what is to be written");
         assert!(listing(&fs::read(&text).unwrap()) == stored, "{}", text.display());
+    }
+}
+
+#[test]
+fn stored_questions_are_answered_as_stored() {
+    for Asked { rows, cols, lengths, questions } in of_the_index() {
+        let mut held = [7; INDEX];
+        assert_eq!(build_index(rows, cols, &lengths, &mut held), 0);
+        for ([row, first, end], answer) in questions {
+            assert_eq!(
+                ask_index(rows, cols, &lengths, &held, row, first, end),
+                answer,
+                "{row} {first} {end}"
+            );
+        }
     }
 }

@@ -3,10 +3,10 @@
 
 mod region;
 
-use rabdzhine::{ANSWERS, INTERVALS, LABELS, LENGTHS, LINE, LISTING, ROUTE_PLACES, SIZES, VERTICES};
+use rabdzhine::{ANSWERS, INDEX, INTERVALS, LABELS, LENGTHS, LINE, LISTING, ROUTE_PLACES, SIZES, VERTICES};
 use rabdzhine::{
-    STACK_CHECK_NETWORK, STACK_LABEL_NETWORK, STACK_READ_FIELD, STACK_READ_TEXT, STACK_ROUTE_NETWORK,
-    STACK_RUN_SESSION, STACK_WRITE_FIELD, STACK_WRITE_LISTING,
+    STACK_ASK_INDEX, STACK_BUILD_INDEX, STACK_CHECK_NETWORK, STACK_LABEL_NETWORK, STACK_READ_FIELD,
+    STACK_READ_TEXT, STACK_ROUTE_NETWORK, STACK_RUN_SESSION, STACK_WRITE_FIELD, STACK_WRITE_LISTING,
 };
 use reference::network::{Lent, Plan, MAX_CALLS, MAX_SIZE, MAX_VERTICES, ROOM};
 use reference::plans::{all, city, hostile, session, Rng, Session, KINDS, TOWN_STREET};
@@ -28,12 +28,20 @@ fn call<'a>(name: &'static str, stated: usize, make: impl FnMut() + 'a) -> Call<
     Call { name, stated, make: Box::new(make) }
 }
 
+/// The index of a session's rectangle.
+fn index_of(s: &Session) -> Vec<u8> {
+    let mut index = vec![0; INDEX];
+    assert_eq!(rabdzhine::build_index(s.rows, s.cols, &s.lengths, &mut index), 0);
+    index
+}
+
 /// Every entry, on this plan, its text and this session.
 fn calls<'a>(plan: &'a Plan, lent: &'a Lent, bytes: &'a [u8], s: &'a Session) -> Vec<Call<'a>> {
     let (mut value, mut line) = ([0], [b' '; LINE]);
     let (mut sizes, mut vertices, mut lengths) = (vec![0; SIZES], vec![0; VERTICES], vec![0; LENGTHS]);
     let (mut labels, mut arcs, mut listing) = (vec![0; LABELS], vec![0; ROUTE_PLACES], vec![0; LISTING]);
     let (mut answers, mut intervals) = (vec![0; ANSWERS], vec![0; INTERVALS]);
+    let (mut index, built) = (vec![0; INDEX], index_of(s));
     vec![
         call("read_field", STACK_READ_FIELD, move || {
             rabdzhine::read_field(bytes, 0, &mut value);
@@ -59,6 +67,17 @@ fn calls<'a>(plan: &'a Plan, lent: &'a Lent, bytes: &'a [u8], s: &'a Session) ->
         call("run_session", STACK_RUN_SESSION, move || {
             let Session { rows, cols, count, lengths, calls } = s;
             rabdzhine::run_session(*rows, *cols, *count, lengths, calls, &mut answers, &mut intervals);
+        }),
+        call("build_index", STACK_BUILD_INDEX, move || {
+            rabdzhine::build_index(s.rows, s.cols, &s.lengths, &mut index);
+        }),
+        call("ask_index", STACK_ASK_INDEX, move || {
+            // every stretch of the last row: which of them goes deepest depends on the columns
+            for first in 0..s.cols {
+                for end in first + 1..=s.cols {
+                    rabdzhine::ask_index(s.rows, s.cols, &s.lengths, &built, s.rows - 1, first, end);
+                }
+            }
         }),
         call("write_listing", STACK_WRITE_LISTING, move || {
             rabdzhine::write_listing(bytes, &mut listing);

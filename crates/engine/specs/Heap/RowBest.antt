@@ -1,8 +1,9 @@
 -- Stretches of one row: sums through it, and its best, the lowest column of least sum.
 --   sumAt rowSums                              a column's sum through a row
---   IsBest best-first best-keep best-lower     the lowest column of least length, of those looked at so far
+--   best-first best-keep best-lower            the lowest column of least length, of those looked at so far
 --   best-is-row                                it is what `leastFrom` finds among the sums of the row
---   StretchFits drawn drawn-is                 a stretch that can be read; the interval that is made of it
+--   StretchFits HasIndex                       a stretch that can be read; the index that is asked
+--   drawn drawn-is                             the interval that is made of it
 --   RowBest drawn-best best-moves              an interval carries the best of its stretch of its parent's row, wherever it stands
 use mathlib.Core.Path.{_≡_, refl, sym, subst}
 use mathlib.Core.List.{List}
@@ -15,9 +16,11 @@ use Rattle.definitions.specs.Limits.{rowPlaces, sum}
 use Rattle.definitions.specs.Best.{Best, nobody, by, leastFrom}
 use Rattle.definitions.specs.Intervals.{Interval, interval, firstColumn, lastColumn}
 use Rattle.definitions.specs.Model.{Listed}
+use Rattle.definitions.specs.Index.{IsLeast}
 use Rattle.definitions.specs.HeldModel.{lentEntry}
 use Rattle.definitions.specs.Laws.LeastLaws.{Found, found-is}
 use Rattle.logic.specs.Tests.{split-at}
+use Rattle.index.specs.HeldRows.{Indexed}
 use Rattle.engine.specs.Heap.WordLaws.{wordEnd}
 
 -- column c's sum through row r, whose label lies at its place
@@ -30,14 +33,7 @@ rowSums rows col0 labels r c = by r (sumAt rows col0 labels r c)
 
 -- ---- the least length
 
--- of the lengths f from column `first` up to, not including, `end`
-pub record IsBest (f : ℕ → ℕ) (first end column : ℕ) : Type 0 where
-  pub low : first ≤ column
-  pub high : column < end
-  pub no-less : (c : ℕ) → first ≤ c → c < end → f column ≤ f c
-  pub no-lower : (c : ℕ) → first ≤ c → c < column → f column < f c
-
-pub best-first : (f : ℕ → ℕ) (c : ℕ) → IsBest f c (c + 1) c
+pub best-first : (f : ℕ → ℕ) (c : ℕ) → IsLeast f c (c + 1) c
 best-first f c = record {
   low = le-refl c;
   high = omega arith;
@@ -46,8 +42,8 @@ best-first f c = record {
 }
 
 -- one column more: it wins only by a smaller length
-module _ (f : ℕ → ℕ) (first c b : ℕ) (h : IsBest f first c b) where
-  pub best-lower : f c < f b → IsBest f first (c + 1) c
+module _ (f : ℕ → ℕ) (first c b : ℕ) (h : IsLeast f first c b) where
+  pub best-lower : f c < f b → IsLeast f first (c + 1) c
   best-lower l = record {
     low = omega (arith, h .low, h .high);
     high = omega arith;
@@ -55,7 +51,7 @@ module _ (f : ℕ → ℕ) (first c b : ℕ) (h : IsBest f first c b) where
     no-lower = λ d x y. omega (arith, h .no-less d x y);
   }
 
-  pub best-keep : f b ≤ f c → IsBest f first (c + 1) b
+  pub best-keep : f b ≤ f c → IsLeast f first (c + 1) b
   best-keep l = record {
     low = h .low;
     high = omega (arith, h .high);
@@ -65,7 +61,7 @@ module _ (f : ℕ → ℕ) (first c b : ℕ) (h : IsBest f first c b) where
 
 -- ---- the least sum
 
-pub best-is-row : (rows : List (List ℕ)) (col0 : ℕ) (labels : List ℕ) (p first n r : ℕ) → IsBest (lentEntry rows col0 p) first (first + n) r
+pub best-is-row : (rows : List (List ℕ)) (col0 : ℕ) (labels : List ℕ) (p first n r : ℕ) → IsLeast (lentEntry rows col0 p) first (first + n) r
     → leastFrom (rowSums rows col0 labels p) first n ≡ by r (sumAt rows col0 labels p r)
 unfolding sumAt
 best-is-row rows col0 labels p first n r h = go (leastFrom (rowSums rows col0 labels p) first n) (found-is (rowSums rows col0 labels p) first n)
@@ -92,12 +88,17 @@ pub record StretchFits (rows : List (List ℕ)) (col0 : ℕ) (labels : List ℕ)
   pub columns : col0 + end ≤ rowPlaces
   pub fits : (c : ℕ) → first ≤ c → c < end → sumAt rows col0 labels p c < wordEnd
 
+-- the index that a best is asked of: that of these rows' columns from col0 on
+pub record HasIndex (index rows : List (List ℕ)) (col0 cols : ℕ) : Type 0 where
+  pub inside : col0 + cols ≤ rowPlaces
+  pub indexed : Indexed index rows col0 cols
+
 -- they as an interval, with its best
 abbrev pub drawn : List (List ℕ) → ℕ → List ℕ → ℕ → ℕ → ℕ → Listed
 drawn rows col0 labels p first end = record { interval = interval p first (end - 1); best = leastFrom (rowSums rows col0 labels p) first (end - first) }
 
 -- as the code has it
-pub drawn-is : (rows : List (List ℕ)) (col0 : ℕ) (labels : List ℕ) (p first end c s : ℕ) → IsBest (lentEntry rows col0 p) first end c → s ≡ sumAt rows col0 labels p c
+pub drawn-is : (rows : List (List ℕ)) (col0 : ℕ) (labels : List ℕ) (p first end c s : ℕ) → IsLeast (lentEntry rows col0 p) first end c → s ≡ sumAt rows col0 labels p c
     → record { interval = interval p first (end - 1); best = by c s } ≡ drawn rows col0 labels p first end
 drawn-is rows col0 labels p first end c s h q =
     let z : first + (end - first) ≡ end = omega (arith, h .low, h .high) in

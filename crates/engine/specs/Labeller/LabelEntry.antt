@@ -24,6 +24,7 @@ use Rattle.definitions.specs.Judgement.{judgeBounds, judgeSource, judgePiece, p
 use Rattle.definitions.specs.Laws.Causes.{passed, no-cause, test-holds, bounds-in}
 use Rattle.basics.specs.Buffers.{buffers-are}
 use Rattle.logic.specs.Tests.{split-at, Equal, equal, differ, equality}
+use Rattle.preparation.specs.BlockIndex.{noIndex, filledBlocks}
 use Rattle.preparation.specs.Prepared.{matrixOf, filledMatrix, tableCount, tablesOf, filledTables, maxWords}
 use Rattle.preparation.specs.Numbering.{Fits}
 use Rattle.labelling_laws.specs.Acceptance.{Accepted, size-passes, suits}
@@ -132,19 +133,19 @@ module _ (n p : ℕ) (sizes vertices lengths : List ℕ) (source : ℕ) (buffer 
   }
 
   -- as the code has them
-  module _ (matrix lent : List (List ℕ)) (numbers zeros words cleared arcs : List ℕ) (long : ℕ) (rows : length lent ≡ vertexPlaces) (places : length zeros ≡ tableCount)
-      (a : matrix ≡ filledMatrix lent lengths) (b : numbers ≡ filledTables zeros p sizes vertices)
+  module _ (matrix lent index : List (List ℕ)) (numbers zeros words cleared arcs : List ℕ) (long : ℕ) (rows : length lent ≡ vertexPlaces) (places : length zeros ≡ tableCount)
+      (a : matrix ≡ filledMatrix lent lengths) (b : numbers ≡ filledTables zeros p sizes vertices) (g : index ≡ filledBlocks noIndex matrix numbers)
       (f : words ≡ replicate (length {A = ℕ} (replicate maxWords 0)) 0) (e : cleared ≡ replicate (length buffer) unreached)
       (all : long ≡ labelPlaces) (z : arcs ≡ replicate long 0) where
-    pub may-begin : LabelAllGiven (lentArc vertices lengths) (store matrix numbers (replicate vertexPlaces 0) words (replicate treeWords idle) cleared arcs) source n qs
+    pub may-begin : LabelAllGiven (lentArc vertices lengths) (store matrix index numbers (replicate vertexPlaces 0) words (replicate treeWords idle) cleared arcs) source n qs
     unfolding filledMatrix filledTables
     may-begin =
         let m : matrix ≡ matrixOf lengths = a ∙ simp (eq-eqb (length lent) vertexPlaces rows, eq-eqb (length lengths) lengthPlaces lengths-are) in
         let t : numbers ≡ tablesOf p sizes vertices = b ∙ simp (eq-eqb (length zeros) tableCount places) in
         let fresh : words ≡ replicate maxWords 0 = f ∙ ap (λ (k : ℕ). replicate k 0) (length-replicate {A = ℕ} maxWords 0) in
-        rw (m, t, fresh, e, buffers .3, z, all) given
+        rw (g, m, t, fresh, e, buffers .3, z, all) given
 
-    pub can-label : LabelAllNeeds (store matrix numbers (replicate vertexPlaces 0) words (replicate treeWords idle) cleared arcs) source
+    pub can-label : LabelAllNeeds (store matrix index numbers (replicate vertexPlaces 0) words (replicate treeWords idle) cleared arcs) source
     can-label = record { arcs-by = lentArc vertices lengths; n = n; pieces = qs; given = may-begin }
 
 -- ---- what the entry returns and leaves

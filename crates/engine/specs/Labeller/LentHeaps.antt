@@ -2,7 +2,7 @@
 --   replaced                                    the words with a part of them changed
 --   heap-long window-long labels-long           how long the parts of a block are
 --   Bounds bounds                               the block's numbers lie within the arrays
---   lent-heap lent-rows lent-labels lent-holds  the lent parts are the block's
+--   lent-heap lent-rows lent-index lent-indexed lent-labels lent-holds    the lent parts are the block's
 --   back-here back-other back-long              the words afterwards: the block's, another block's, how many
 use mathlib.Core.Path.{_≡_, sym, ap, _∙_}
 use mathlib.Core.Logic.{_⊎_, inl, inr, _≢_}
@@ -19,7 +19,8 @@ use Rattle.definitions.specs.HeapWords.{heapWords}
 use Rattle.definitions.specs.HeldModel.{Holds}
 use Rattle.preparation.specs.Prepared.{slotIn, rowIn, colsIn, rowCountIn, maxWords}
 use Rattle.engine.specs.declared.blocks.Numbers.{Numbers}
-use Rattle.engine.specs.Labeller.State.{Tables, Heaps, heapIn, windowIn, labelsIn, numbersIn, HoldsBlocks}
+use Rattle.engine.specs.Heap.RowBest.{HasIndex}
+use Rattle.engine.specs.Labeller.State.{Tables, Heaps, heapIn, windowIn, indexIn, labelsIn, numbersIn, HoldsBlocks}
 
 -- ---- a part of a list
 
@@ -77,6 +78,7 @@ pub record Bounds (h : Heaps) (x : Numbers) : Type 0 where
   pub rows-rise : x .top ≤ x .bottom
   pub rows-in : x .bottom ≤ length (h .tables .matrix)
   pub rows-are : length (h .tables .matrix) ≡ vertexPlaces
+  pub index-are : length (h .tables .index) ≡ vertexPlaces
   pub labels-are : length (h .rowLabels) ≡ vertexPlaces
 
 module _ {h : Heaps} {bs : List Block} {ss : List BlockState} (held : HoldsBlocks h bs ss) (b : ℕ) (l : b < length bs) (x : Numbers) (is : x ≡ numbersIn (h .tables .numbers) b) where
@@ -93,6 +95,7 @@ module _ {h : Heaps} {bs : List Block} {ss : List BlockState} (held : HoldsBlock
         rows-rise = omega arith;
         rows-in = omega (arith, g .rows-in, held .parted .rows-are);
         rows-are = held .parted .rows-are;
+        index-are = held .parted .index-are;
         labels-are = held .labels-are;
       })
 
@@ -103,6 +106,13 @@ module _ {h : Heaps} {bs : List Block} {ss : List BlockState} (held : HoldsBlock
   pub lent-rows : take (x .bottom - x .top) (drop (x .top) (h .tables .matrix)) ≡ windowIn (h .tables) b
   unfolding windowIn
   lent-rows = let z : rowIn numbers b + rowCountIn numbers b - rowIn numbers b ≡ rowCountIn numbers b = omega arith in rw (is, z)
+
+  pub lent-index : take (x .bottom - x .top) (drop (x .top) (h .tables .index)) ≡ indexIn (h .tables) b
+  unfolding indexIn
+  lent-index = let z : rowIn numbers b + rowCountIn numbers b - rowIn numbers b ≡ rowCountIn numbers b = omega arith in rw (is, z)
+
+  pub lent-indexed : HasIndex (take (x .bottom - x .top) (drop (x .top) (h .tables .index))) (take (x .bottom - x .top) (drop (x .top) (h .tables .matrix))) (x .col0) (x .cols)
+  lent-indexed = let g = held .parted .lies b l in rw (lent-index, lent-rows, is) (record { inside = g .checked .inside; indexed = g .indexed })
 
   pub lent-labels : take (x .bottom - x .top) (drop (x .top) (h .rowLabels)) ≡ labelsIn (h .tables) (h .rowLabels) b
   unfolding labelsIn

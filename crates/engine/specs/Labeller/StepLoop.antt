@@ -59,8 +59,8 @@ pub record Store : Type 0 where
   pub arcs : List ℕ
 
 -- as the functions have them
-abbrev pub store : List (List ℕ) → List ℕ → List ℕ → List ℕ → List ℕ → List ℕ → List ℕ → Store
-store matrix numbers rowLabels words tree labels arcs = record { arrays = arrays matrix numbers rowLabels words tree; labels = labels; arcs = arcs }
+abbrev pub store : List (List ℕ) → List (List ℕ) → List ℕ → List ℕ → List ℕ → List ℕ → List ℕ → List ℕ → Store
+store matrix index numbers rowLabels words tree labels arcs = record { arrays = arrays matrix index numbers rowLabels words tree; labels = labels; arcs = arcs }
 
 -- after a step
 abbrev pub changedStore : Store → List ℕ → List ℕ → List ℕ → List ℕ → List ℕ → Store

@@ -1,39 +1,30 @@
--- `best_in` keeps the best of the columns before `column`, and its length.
-use mathlib.Core.Path.{_≡_, refl}
-use mathlib.Core.Logic.{⊎-elim}
-use Prim.Native.Nat.{_-_, _≤_}
+-- `best_in`: a single column, the lesser of two, or what the index gives.
+use mathlib.Core.Path.{_≡_}
+use Prim.Native.Nat.{_+_}
 use native.Mathlib.Omega.{arith}
-use Rattle.definitions.specs.HeldModel.{lentEntry}
-use Rattle.engine.specs.Heap.RowBest.{IsBest, best-first, best-keep, best-lower}
 use borrow.Author.Needs.{needs}
+use Rattle.definitions.specs.HeldModel.{lentEntry}
+use Rattle.index.specs.IndexTheorems.{indexed-least}
+use Rattle.engine.specs.Heap.RowBest.{best-first}
 use Rattle.engine.proofs.heap.best_in.Statement.{statement}
 use Rattle.engine.proofs.heap.best_in.Tie as tie
 
-abbrev Inv-loop : tie.InvT-loop
-Inv-loop rows col0 row first end best₀ least₀ column₀ best least column =
-    (column ≤ end) × (least ≡ lentEntry rows col0 row best) × IsBest (lentEntry rows col0 row) first column best
+returns : tie.Need-returns
+returns c = let a = c .before .args in let e : a .end ≡ a .first + 1 = omega arith in rw e (best-first _ _)
 
-abbrev μ-loop : tie.MeasureT-loop
-μ-loop rows col0 row first end best₀ least₀ column₀ best least column = end - column
+lesser-of-two-requires : tie.Need-lesser-of-two-requires
+lesser-of-two-requires c κs = let p = c .before .before .pre in (p .0, omega (arith, c .if2 .taken, p .2, p .3 .inside))
 
-loop-holds : tie.Need-loop-holds Inv-loop μ-loop
+returns-2 : tie.Need-returns-2
+returns-2 c = let a = c .before .before .before .args in let e : a .first + 2 ≡ a .end = omega (arith, c .before .if2 .taken) in rw e at (c .lesser-of-two .ensures)
+
+returns-3 : tie.Need-returns-3
 unfolding lentEntry
-loop-holds c = (omega arith, refl, best-first _ _)
-
-loop-again : tie.Need-loop-again Inv-loop μ-loop
-unfolding lentEntry
-loop-again c =
-    let l = c .before .before .before .loop in
-    ⊎-elim
-    (λ w. rw (w .1, w .2) (omega arith, refl, best-lower _ _ _ _ (l .inv .2) (omega (arith, w .0 .taken, l .inv .1))))
-    (λ w. rw (w .1, w .2) (omega arith, l .inv .1, best-keep _ _ _ _ (l .inv .2) (omega (arith, w .0 .left, l .inv .1))))
-    (c .if1 .came)
-
-returns : tie.Need-returns Inv-loop μ-loop
-returns c = let e : c .before .loop .column ≡ c .before .before .before .args .end = omega arith in rw e at (c .before .loop .inv .2)
+returns-3 c =
+    let p = c .before .before .before .before .before .pre in
+    rw (c .least-column .ensures) (indexed-least _ _ _ _ (p .3 .indexed) _ _ _ (p .0) (p .3 .inside) (p .1) (p .2))
 
 pub best-in-spec : {M : Type 1} → statement M
 best-in-spec =
-    tie.close (tie.spec Inv-loop μ-loop (λ c. search needs) (λ c. search needs) (λ c. search needs) (λ c. search needs) (λ c. search needs)
-    (λ c. search needs) loop-holds (λ c. search needs) (λ c. search needs) (λ c. search needs) (λ c. search needs) (λ c. search needs)
-    (λ c. search needs) (λ c. search needs) loop-again returns)
+    tie.close (tie.spec (λ c. search needs) returns (λ c. search needs) lesser-of-two-requires returns-2 (λ c. search needs) (λ c. search needs)
+    (λ c. search needs) (λ c. search needs) (λ c κs. search needs) returns-3)

@@ -32,7 +32,7 @@ can : (c : tie.After-last) →
     CanReplace (a .heap .now) (a .rows .now) (a .col0) (a .labels .now) (a .place) (a .place + 1)
     (record { parent = c .before .before .before .before .parent .result; first = c .before .before .first .result; end = a .column })
     (record { parent = c .before .before .before .before .parent .result; first = a .column + 1; end = c .last .result + 1 }) 0
-can c = cut-needs _ _ _ _ _ _ _ _ _ (start c .pre) (c .before .before .before .before .parent .ensures) (c .before .before .first .ensures) (c .last .ensures)
+can c = cut-needs _ _ _ _ _ _ _ _ _ (start c .pre .0) (c .before .before .before .before .parent .ensures) (c .before .before .first .ensures) (c .last .ensures)
 
 -- and there is room for them
 room : (c : tie.After-rest-len2) →
@@ -41,47 +41,52 @@ room : (c : tie.After-rest-len2) →
 room c = replace-room _ _ _ _ _ _ _ _ _ _ _ _ (can (read c)) (c .before .rest-len .ensures .0) (c .rest-len2 .ensures .0) (omega arith)
 
 parent-requires : tie.Need-parent-requires
-parent-requires c κs = let p = c .before .before .before .pre in omega (arith, p .inside, p .room .words)
+parent-requires c κs = let p = c .before .before .before .pre .0 in omega (arith, p .inside, p .room .words)
 
 first-requires : tie.Need-first-requires
-first-requires c κs = let p = c .before .before .before .before .before .pre in omega (arith, p .inside, p .room .words)
+first-requires c κs = let p = c .before .before .before .before .before .pre .0 in omega (arith, p .inside, p .room .words)
 
 last-requires : tie.Need-last-requires
-last-requires c κs = let p = c .before .before .before .before .before .before .before .pre in omega (arith, p .inside, p .room .words)
+last-requires c κs = let p = c .before .before .before .before .before .before .before .pre .0 in omega (arith, p .inside, p .room .words)
 
 add-end : tie.Need-add-end
 add-end c = omega (arith, c .last .ensures .fits)
 
 add-rest-len : tie.Need-add-rest-len
-add-rest-len c = omega (arith, start (c .before) .pre .high, c .before .last .ensures .is, c .before .last .ensures .fits)
+add-rest-len c = omega (arith, start (c .before) .pre .0 .high, c .before .last .ensures .is, c .before .last .ensures .fits)
 
 add-number : tie.Need-add-number
 add-number c = omega (arith, c .before .rest-len .ensures .1, c .rest-len2 .ensures .1)
 
 add-make-room : tie.Need-add-make-room
-add-make-room c = let p = start (read (c .before)) .pre in omega (arith, p .inside, p .room .small)
+add-make-room c = let p = start (read (c .before)) .pre .0 in omega (arith, p .inside, p .room .small)
 
 make-room-requires : tie.Need-make-room-requires
 make-room-requires c κs = room (c .before)
 
 put-rest-requires : tie.Need-put-rest-requires
-put-rest-requires c κs = (
-  left-room _ _ _ _ _ _ _ _ _ _ _ _ (can (read (measured (c .before .before .before)))) (measured (c .before .before .before) .before .rest-len .ensures .0) (measured (c .before .before .before) .rest-len2 .ensures .0) (omega arith) _ (c .before .before .before .make-room .ensures),
-  can (read (measured (c .before .before .before))) .left-fits,
-)
+put-rest-requires c κs =
+    let a = start (read (measured (c .before .before .before))) in (
+      (
+        left-room _ _ _ _ _ _ _ _ _ _ _ _ (can (read (measured (c .before .before .before)))) (measured (c .before .before .before) .before .rest-len .ensures .0) (measured (c .before .before .before) .rest-len2 .ensures .0) (omega arith) _ (c .before .before .before .make-room .ensures),
+        can (read (measured (c .before .before .before))) .left-fits,
+      ),
+      (omega (arith, a .pre .0 .high, a .pre .1 .0), a .pre .1 .1),
+    )
 
 add-put-rest : tie.Need-add-put-rest
 add-put-rest c =
-    let p = start (read (measured (cleared (c .before .before .before)))) .pre in omega (arith, p .inside, p .room .small, measured (cleared (c .before .before .before)) .before .rest-len .ensures .1)
+    let p = start (read (measured (cleared (c .before .before .before)))) .pre .0 in omega (arith, p .inside, p .room .small, measured (cleared (c .before .before .before)) .before .rest-len .ensures .1)
 
 add-put-rest-2 : tie.Need-add-put-rest-2
 add-put-rest-2 c =
-    omega (arith, start (read (measured (cleared (c .before .before .before)))) .pre .high, read (measured (cleared (c .before .before .before))) .last .ensures .is, read (measured (cleared (c .before .before .before))) .last .ensures .fits)
+    omega (arith, start (read (measured (cleared (c .before .before .before)))) .pre .0 .high, read (measured (cleared (c .before .before .before))) .last .ensures .is, read (measured (cleared (c .before .before .before))) .last .ensures .fits)
 
 put-rest-requires-2 : tie.Need-put-rest-requires-2
 put-rest-requires-2 c κs =
     let z = right-room _ _ _ _ _ _ _ _ _ _ _ _ (can (read (measured (cleared (c .before .before .before))))) (measured (cleared (c .before .before .before)) .before .rest-len .ensures .0) (measured (cleared (c .before .before .before)) .rest-len2 .ensures .0) (omega arith) _ (cleared (c .before .before .before) .make-room .ensures) in
-    (omega (arith, z, c .before .before .before .put-rest .ensures .outside .long), can (read (measured (cleared (c .before .before .before)))) .right-fits)
+    let l = read (measured (cleared (c .before .before .before))) in
+    ((omega (arith, z, c .before .before .before .put-rest .ensures .outside .long), can l .right-fits), (omega (arith, start l .pre .1 .0, l .last .ensures .is), start l .pre .1 .1))
 
 same-length : tie.Need-same-length
 same-length c =
@@ -89,7 +94,7 @@ same-length c =
 
 returns : tie.Need-returns
 returns c =
-    cut-done _ _ _ _ _ _ _ _ _ (start (read (measured (cleared (first (c .before .before))))) .pre) (read (measured (cleared (first (c .before .before)))) .before .before .before .before .parent .ensures) (read (measured (cleared (first (c .before .before)))) .before .before .first .ensures) (read (measured (cleared (first (c .before .before)))) .last .ensures) _ _ _
+    cut-done _ _ _ _ _ _ _ _ _ (start (read (measured (cleared (first (c .before .before))))) .pre .0) (read (measured (cleared (first (c .before .before)))) .before .before .before .before .parent .ensures) (read (measured (cleared (first (c .before .before)))) .before .before .first .ensures) (read (measured (cleared (first (c .before .before)))) .last .ensures) _ _ _
     (replace-done _ _ _ _ _ _ _ _ _ _ _ _ (can (read (measured (cleared (first (c .before .before)))))) (measured (cleared (first (c .before .before))) .before .rest-len .ensures .0) (measured (cleared (first (c .before .before))) .rest-len2 .ensures .0) (omega arith) _ (cleared (first (c .before .before)) .make-room .ensures)
     _ _ _ (omega arith) (first (c .before .before) .put-rest .ensures) (c .before .before .put-rest2 .ensures))
 

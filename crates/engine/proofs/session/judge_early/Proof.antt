@@ -1,9 +1,11 @@
 -- `judge_early` tests in the order of the definition.
 use mathlib.Core.Path.{sym, _∙_}
 use borrow.Author.Needs.{needs}
-use borrow.Author.Tests.{not-true, not-false}
+use borrow.Author.Tests.{not-true, not-false, le-leb, lt-leb}
 use Rattle.definitions.specs.Lists.{firstCause}
-use Rattle.engine.specs.Session.Judged.{sizes, sides, judgeEarly}
+use Rattle.definitions.specs.Limits.{maxCalls}
+use Rattle.definitions.specs.Laws.Causes.{last}
+use Rattle.engine.specs.Session.Judged.{judgeEarly}
 use Rattle.engine.proofs.session.judge_early.Statement.{statement}
 use Rattle.engine.proofs.session.judge_early.Tie as tie
 
@@ -13,27 +15,14 @@ returns c = rw (sym (c .before .sizes-fit .ensures) ∙ not-true _ (c .if1 .take
 
 returns-2 : tie.Need-returns-2
 unfolding judgeEarly firstCause
-returns-2 c = rw (sym (c .before .before .before .sizes-fit .ensures) ∙ not-false _ (c .before .before .if1 .left), sym (c .before .sides-fit .ensures) ∙ not-true _ (c .if2 .taken))
-
-lengths-fit-requires : tie.Need-lengths-fit-requires
-lengths-fit-requires c κs =
-    let z = sizes _ _ _ _ (sym (c .before .before .before .sizes-fit .ensures) ∙ not-false _ (c .before .before .if1 .left)) in
-    let s = sides _ _ _ (sym (c .before .sides-fit .ensures) ∙ not-false _ (c .if2 .left)) in
-    (s .rows-few, s .cols-few, z .lengths-is)
+returns-2 c = rw (sym (c .before .before .sizes-fit .ensures) ∙ not-false _ (c .before .if1 .left), lt-leb _ maxCalls (c .if2 .taken))
 
 returns-3 : tie.Need-returns-3
 unfolding judgeEarly firstCause
 returns-3 c =
-    let b = c .before .before in
-    rw (sym (b .before .before .before .sizes-fit .ensures) ∙ not-false _ (b .before .before .if1 .left), sym (b .before .sides-fit .ensures) ∙ not-false _ (b .if2 .left), sym (c .before .lengths-fit .ensures) ∙ not-true _ (c .if3 .taken))
-
-returns-4 : tie.Need-returns-4
-unfolding judgeEarly firstCause
-returns-4 c =
-    let b = c .before .before in
-    rw (sym (b .before .before .before .sizes-fit .ensures) ∙ not-false _ (b .before .before .if1 .left), sym (b .before .sides-fit .ensures) ∙ not-false _ (b .if2 .left), sym (c .before .lengths-fit .ensures) ∙ not-false _ (c .if3 .left))
+    rw (sym (c .before .before .before .sizes-fit .ensures) ∙ not-false _ (c .before .before .if1 .left), le-leb _ maxCalls (c .before .if2 .left))
+    (c .judge-lengths .ensures ∙ sym (last _))
 
 pub judge-early-spec : {M : Type 1} → statement M
 judge-early-spec =
-    tie.close (tie.spec (λ c κs. search needs) returns (λ c κs. search needs) returns-2 lengths-fit-requires returns-3
-    returns-4)
+    tie.close (tie.spec (λ c κs. search needs) returns returns-2 (λ c κs. search needs) returns-3)

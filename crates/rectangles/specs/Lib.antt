@@ -1,0 +1,3 @@
+-- A lent rectangle: its rows, and its judgement.
+pub mod RectangleRows
+pub mod RectangleJudgement
