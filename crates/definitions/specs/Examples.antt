@@ -207,6 +207,10 @@ refusedBy k = fills k 0 0 0 0 (replicate sizePlaces 0) (replicate vertexPlaces 0
 fiveColumns : List (List ℕ)
 fiveColumns = (3 ∷ 1 ∷ 1 ∷ 2 ∷ 0 ∷ []) ∷ []
 
+-- one whose least column stands in the second half, before the half of that
+fallingRow : List (List ℕ)
+fallingRow = (3 ∷ 1 ∷ 0 ∷ 2 ∷ 5 ∷ []) ∷ []
+
 -- P3's block, and P5's, which fails the check
 twoByTwo : List (List ℕ)
 twoByTwo = (5 ∷ 7 ∷ []) ∷ (6 ∷ 4 ∷ []) ∷ []
@@ -260,12 +264,15 @@ table =
     ∷ row 18 (labelled (chain "     5     5")) (refuses 3)
     ∷ row 19 (index twoByTwo) (holds 0 (padded indexPlaces 0 (padded indexRowPlaces 0 (0 ∷ []) ++ (1 ∷ []))))
     ∷ row 19 (index fiveColumns) (holds 0 (padded indexPlaces 0 (4 ∷ 1 ∷ 4 ∷ 4 ∷ [])))
+    ∷ row 19 (index fallingRow) (holds 0 (padded indexPlaces 0 (2 ∷ 1 ∷ 2 ∷ 3 ∷ [])))
     ∷ row 19 (index failing) (holds 7 (replicate indexPlaces filler))
     ∷ row 20 (ask-built fiveColumns 0 0 5) (finds 0 4)
     ∷ row 20 (ask-built fiveColumns 0 0 4) (finds 0 1)
     ∷ row 20 (ask-built fiveColumns 0 1 3) (finds 0 1)
     ∷ row 20 (ask-built fiveColumns 0 2 4) (finds 0 2)
     ∷ row 20 (ask-built fiveColumns 0 3 4) (finds 0 3)
+    ∷ row 20 (ask-built fallingRow 0 1 5) (finds 0 2)
+    ∷ row 20 (ask-built fallingRow 0 1 4) (finds 0 2)
     ∷ row 21 (ask-built fiveColumns 0 2 2) (finds 50 0)
     ∷ row 21 (ask-built fiveColumns 0 4 6) (finds 50 0)
     ∷ row 21 (ask-built fiveColumns 1 0 5) (finds 50 0)
@@ -277,5 +284,5 @@ table =
 
 -- every row shows what document 01 says, from P7 on with requests 1 to 5 of document 02
 pub examples : map (λ r. run (r .example)) table ≡ map (λ r. r .shown) table
-unfolding bytes depotWith depot longLength longDiagonal chain depotFills refusedBy countsOf readInto filled labelLent listed routeLent led entriesOf blockIn runSession left run row activation extraction done onBlock table flatMap all every mem different total upFrom downTo padded within firstCause splits splitsOf windows windowsOf rowsOf columnsOf corners isMonge lesser least through parent available placed leastFrom adjoins joined prepend prependColumn runs intervals sameInterval isKept noLater putInOrder byFirstColumn countNew isActivated judge activate extract step extend traceFrom trace entry sizeOf blockOf blocksOf blocksFrom blocks passes freshBlock apply leastOf placeOf activateAt activateVertex labelOf arcOf settleAs settle chosen placeIn arcAt arcInto extractFrom advance steps start columns labelling reached extractions insertions heldLabel labels arcsTo routeTo judgeBounds judgeSize judgeVertices judgeRow judgeRows judgeBlocks judgeSource judgeTarget judgePiece pieceAt piecesOf judgeFrom judgeNetwork isDigit skipBlanks isNumeral numeralValue fieldOf fieldAt lengthAt readField readFields judgeLineEnd readLine readRows readPiece pieceBytes readPieces judgeEnd targetIn questionOf questionSize judgeAsked readQuestion readBody readPlan judgeLength readText sizesOf verticesOf tableOf lengthsOf hasPlaces judgeBuffers heldTarget afterRead reading judgeLabelling labelAnswer labelNetwork judgeRoute arcNumbers arcsOf routeAnswer routeNetwork rectangleOf judgeSides judgeRectangle judgeSession judgeIndexBuffers judgeIndex buildIndex judgeQuestion askIndex lentRows colsOf builtOf held answered fiveColumns twoByTwo failing leastIn columnOf heldAt rowIndex indexOf inStretch heldIn ask callAt callsOf answersOf intervalsOf session digitsOf decimal rightJustified nineColumns listingLine refusalLine stateListing routeListing questionListing planListing listing
+unfolding bytes depotWith depot longLength longDiagonal chain depotFills refusedBy countsOf readInto filled labelLent listed routeLent led entriesOf blockIn runSession left run row activation extraction done onBlock table flatMap all every mem different total upFrom downTo padded within firstCause splits splitsOf windows windowsOf rowsOf columnsOf corners isMonge lesser least through parent available placed leastFrom adjoins joined prepend prependColumn runs intervals sameInterval isKept noLater putInOrder byFirstColumn countNew isActivated judge activate extract step extend traceFrom trace entry sizeOf blockOf blocksOf blocksFrom blocks passes freshBlock apply leastOf placeOf activateAt activateVertex labelOf arcOf settleAs settle chosen placeIn arcAt arcInto extractFrom advance steps start columns labelling reached extractions insertions heldLabel labels arcsTo routeTo judgeBounds judgeSize judgeVertices judgeRow judgeRows judgeBlocks judgeSource judgeTarget judgePiece pieceAt piecesOf judgeFrom judgeNetwork isDigit skipBlanks isNumeral numeralValue fieldOf fieldAt lengthAt readField readFields judgeLineEnd readLine readRows readPiece pieceBytes readPieces judgeEnd targetIn questionOf questionSize judgeAsked readQuestion readBody readPlan judgeLength readText sizesOf verticesOf tableOf lengthsOf hasPlaces judgeBuffers heldTarget afterRead reading judgeLabelling labelAnswer labelNetwork judgeRoute arcNumbers arcsOf routeAnswer routeNetwork rectangleOf judgeSides judgeRectangle judgeSession judgeIndexBuffers judgeIndex buildIndex judgeQuestion askIndex lentRows colsOf builtOf held answered fiveColumns fallingRow twoByTwo failing leastIn columnOf heldAt rowIndex indexOf inStretch heldIn ask callAt callsOf answersOf intervalsOf session digitsOf decimal rightJustified nineColumns listingLine refusalLine stateListing routeListing questionListing planListing listing
 examples = refl
