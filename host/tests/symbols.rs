@@ -18,7 +18,7 @@ const ENTRIES: [&str; 10] = [
 ];
 
 /// What README.md states, in bytes.
-const MOST_CODE: usize = 32 * 1024;
+const MOST_CODE: usize = 40 * 1024;
 const MOST_CONSTANTS: usize = 2 * 1024;
 
 /// What the tool prints about the library.
