@@ -82,9 +82,9 @@ pub const STACK_READ_FIELD: usize = 128;
 /// Bytes of stack for [`write_field`].
 pub const STACK_WRITE_FIELD: usize = 128;
 /// Bytes of stack for [`read_text`].
-pub const STACK_READ_TEXT: usize = 5120;
+pub const STACK_READ_TEXT: usize = 1792;
 /// Bytes of stack for [`check_network`].
-pub const STACK_CHECK_NETWORK: usize = 5120;
+pub const STACK_CHECK_NETWORK: usize = 1536;
 /// Bytes of stack for [`label_network`].
 pub const STACK_LABEL_NETWORK: usize = 180_224;
 /// Bytes of stack for [`route_network`].

@@ -91,12 +91,12 @@ pub fn build_index(rows: u32, cols: u32, lengths: &[u32], index: &mut [u8]) -> u
     if cause != Cause::NONE {
         return cause;
     }
-    let rectangle = rectangles::load(lengths);
     let height = rows as usize;
     let width = cols as usize;
-    if !monge::is_monge(&rectangle, 0, 0, height, width) {
+    if !monge::is_monge(lengths, height, width) {
         return Cause::BLOCK;
     }
+    let rectangle = rectangles::load(lengths);
     write_index(&rectangle, height, width, index);
     Cause::NONE
 }

@@ -16,17 +16,14 @@ use Rattle.splits.specs.declared.Split as code
 use Rattle.splits.specs.Table.{flattened, noSplit, splitOf, splitIn, firstSplit}
 use Rattle.splits.specs.Halving.{size-count}
 use Rattle.splits.specs.Sizes.{Cut, cut-at, split-is}
-use Rattle.monge.specs.Matrix.{mongeIn}
+use Rattle.monge.specs.Matrix.{blockMongeIn}
 use Rattle.judgements.specs.PieceJudgement.{passesIn}
 
-pub both-blocks : (matrix : List (List ℕ)) (m : ℕ) (c : Split) → Cut m c
-    → every (passesIn matrix m) (windows (c ∷ []))
-    ≡ (mongeIn matrix (c .first) (m - c .end) (c .middle - c .first) (c .end - c .middle) && mongeIn matrix (c .middle) (m - c .middle) (c .end - c .middle) (c .middle - c .first))
+pub both-blocks : (lengths : List ℕ) (c : Split)
+    → every (passesIn lengths) (windows (c ∷ []))
+    ≡ (blockMongeIn lengths (c .first) (c .middle) (c .middle - c .first) (c .end - c .middle) && blockMongeIn lengths (c .middle) (c .first) (c .end - c .middle) (c .middle - c .first))
 unfolding every windows passesIn
-both-blocks matrix m c h =
-    let a : c .middle + (c .end - c .middle) ≡ c .end = omega (arith, h .after) in
-    let b : c .first + (c .middle - c .first) ≡ c .middle = omega (arith, h .before) in
-    rw (a, b, and-true)
+both-blocks lengths c = rw and-true
 
 regroup : (a b r : Bool) → (a && (b && r)) ≡ ((a && (b && true)) && r)
 regroup true true r = refl
@@ -54,12 +51,12 @@ module _ (m : ℕ) (high : m ≤ maxSize) (list : List ℕ) (all-of : list ≡ f
   pub in-order : Cut m (splitOf c)
   in-order = rw listed (cut-at m high j (omega arith))
 
-  module _ (matrix : List (List ℕ)) (e : every (passesIn matrix m) (windowsOf m) ≡ every (passesIn matrix m) (windows (drop j (splitsOf m)))) where
-    pub stopped : every (passesIn matrix m) (windows (splitOf c ∷ [])) ≡ false → false ≡ every (passesIn matrix m) (windowsOf m)
-    stopped h = rw (e, next-split (passesIn matrix m) (splitsOf m) j inside, ← listed, h)
+  module _ (lengths : List ℕ) (e : every (passesIn lengths) (windowsOf m) ≡ every (passesIn lengths) (windows (drop j (splitsOf m)))) where
+    pub stopped : every (passesIn lengths) (windows (splitOf c ∷ [])) ≡ false → false ≡ every (passesIn lengths) (windowsOf m)
+    stopped h = rw (e, next-split (passesIn lengths) (splitsOf m) j inside, ← listed, h)
 
-    pub went : every (passesIn matrix m) (windows (splitOf c ∷ [])) ≡ true → every (passesIn matrix m) (windowsOf m) ≡ every (passesIn matrix m) (windows (drop (j + 1) (splitsOf m)))
-    went h = e ∙ rw (next-split (passesIn matrix m) (splitsOf m) j inside, ← listed, h)
+    pub went : every (passesIn lengths) (windows (splitOf c ∷ [])) ≡ true → every (passesIn lengths) (windowsOf m) ≡ every (passesIn lengths) (windows (drop (j + 1) (splitsOf m)))
+    went h = e ∙ rw (next-split (passesIn lengths) (splitsOf m) j inside, ← listed, h)
 
 pub ended : (m : ℕ) → m ≤ maxSize → (j : ℕ) → m ≤ j + 1 → drop j (splitsOf m) ≡ []
 ended m high j l = drop-of-length-le (splitsOf m) {i = j} (omega (arith, size-count m high))

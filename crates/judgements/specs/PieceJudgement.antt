@@ -1,11 +1,11 @@
 -- Laws of the judgement of a piece.
---   passesIn blocks-windows       the blocks of a piece pass exactly if the windows of its reversed matrix do
+--   passesIn blocks-windows       the blocks of a piece pass exactly if those of its table do
 --   blocks-same table-blocks      they ask for the size and the table only
 --   piece-parts piece-lent        a piece of the lent buffers stands in its own parts of them, and is judged by these
 use mathlib.Core.Path.{_≡_, refl, sym, ap, _∙_}
 use mathlib.Core.Bool.{Bool}
 use mathlib.Core.List.{List, [], _∷_, map}
-use Prim.Native.Nat.{ℕ, zero, suc, _+_, _-_, _*_, _≤_, _<_}
+use Prim.Native.Nat.{ℕ, zero, suc, _+_, _*_, _≤_, _<_}
 use native.Mathlib.Omega.{arith}
 use borrow.Author.Tests.{eq-eqb}
 use lib.ListN.{getD, length, take, drop}
@@ -20,9 +20,9 @@ use Rattle.definitions.specs.Entries.{hasPlaces}
 use Rattle.definitions.specs.Laws.Causes.{passed, last, size-in}
 use Rattle.logic.specs.Tests.{Equal, equal, differ, equality}
 use Rattle.splits.specs.Windows.{Inside, windows-inside}
-use Rattle.monge.specs.Matrix.{at, mongeIn, reversed, rowsIn}
+use Rattle.monge.specs.Matrix.{at, rowsIn, blockMongeIn}
 use Rattle.basics.specs.Sequences.{length-upFrom}
-use Rattle.monge.specs.Copies.{block-passes}
+use Rattle.monge.specs.PieceTables.{block-passes}
 use Rattle.basics.specs.PiecePlaces.{block-rows, block-cols}
 use Rattle.judgements.specs.LentPieces.{pieceIn, tableIn, judgeTable}
 
@@ -38,17 +38,17 @@ unfolding every
 every-of-map p f [] = refl
 every-of-map p f (x ∷ xs) = rw (every-of-map p f xs)
 
--- the check of a block of a piece of size m in its reversed matrix
-unfoldable pub passesIn : List (List ℕ) → ℕ → Window → Bool
-passesIn matrix m w = mongeIn matrix (w .row0) (m - (w .col0 + w .cols)) (w .rows) (w .cols)
+-- the check of a block in the table of its piece
+unfoldable pub passesIn : List ℕ → Window → Bool
+passesIn lengths w = blockMongeIn lengths (w .row0) (w .col0) (w .rows) (w .cols)
 
-pub blocks-windows : (m : ℕ) (lengths : List ℕ) (q : Piece) → sizeOf q ≡ m → q .rows ≡ rowsIn m lengths → m ≤ maxSize
-    → every passes (blocksOf 0 q) ≡ every (passesIn (reversed m lengths) m) (windowsOf m)
+pub blocks-windows : (m : ℕ) (lengths : List ℕ) (q : Piece) → sizeOf q ≡ m → q .rows ≡ rowsIn m lengths → m ≤ maxSize → length lengths ≡ tablePlaces
+    → every passes (blocksOf 0 q) ≡ every (passesIn lengths) (windowsOf m)
 unfolding blocksOf passesIn
-blocks-windows m lengths q size same small =
+blocks-windows m lengths q size same small full =
     rw size
     (every-of-map passes (blockOf 0 q) (windowsOf m)
-    ∙ every-same (Inside m) _ _ (windowsOf m) (λ w h. block-passes m lengths q same small 0 w (h .rows-in) (h .cols-in)) (windows-inside m small))
+    ∙ every-same (Inside m) _ _ (windowsOf m) (λ w h. block-passes m lengths q same small 0 w (h .rows-in) (h .cols-in) full) (windows-inside m small))
 
 block-alike : (q q′ : Piece) → q .rows ≡ q′ .rows → (w : Window) → passes (blockOf 0 q w) ≡ passes (blockOf 0 q′ w)
 unfolding passes blockOf entry

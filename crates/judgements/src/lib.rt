@@ -2,14 +2,14 @@
 ghost use mathlib.Core.Path.{_≡_};
 ghost use mathlib.Core.List.{[], _∷_};
 ghost use Prim.Native.Nat.{_≤_};
+ghost use lib.Dec.{leb};
 ghost use lib.ListN.{length};
-ghost use Rattle.definitions.specs.Limits.{maxPieces, maxSize, sizePlaces, vertexPlaces, lengthPlaces, tablePlaces};
+ghost use Rattle.definitions.specs.Limits.{maxPieces, maxSize, maxLength, sizePlaces, vertexPlaces, lengthPlaces, tablePlaces};
 ghost use Rattle.definitions.specs.Lists.{every, mem, within};
 ghost use Rattle.definitions.specs.Blocks.{allSplits, windows, windowsOf};
 ghost use Rattle.definitions.specs.Judgement.{judgeBounds, judgeSize, judgeVertices, judgeRow, judgeRows, judgeFrom, judgeSource, judgeTarget};
 ghost use Rattle.definitions.specs.Entries.{judgeBuffers, judgeLent};
 ghost use Rattle.splits.specs.Table.{flattened, splitOf};
-ghost use Rattle.splits.specs.Sizes.{Cut};
 ghost use Rattle.monge.specs.Matrix.{rowsIn};
 ghost use Rattle.judgements.specs.LentPieces.{judgeTable, judgePieceIn};
 ghost use Rattle.judgements.specs.PieceJudgement.{passesIn};
@@ -97,16 +97,26 @@ pub fn judge_vertices(n: u32, vertices: &[u32]) -> u32
     Cause::NONE
 }
 
+// Whether every length of a row is within its limit. All are looked at, behind one that is not too: a loop that goes to its end is compiled to take four
+// at a time.
+fn lengths_fit(row: &[u32]) -> bool
+    ensures { λ r. ⌜ r ≡ every (λ l. leb l maxLength) (now (row .entry)) ⌝ }
+{
+    let mut fit = true;
+    let mut k = 0;
+    while k < row.len() {
+        fit = fit & (row[k] <= Network::MAX_LENGTH);
+        k += 1;
+    }
+    fit
+}
+
 // Row i of a table, else 6. A row with no place i has nothing on the diagonal.
 pub fn judge_row(i: usize, row: &[u32]) -> u32
     ensures { λ r. ⌜ r ≡ judgeRow i (now (row .entry)) ⌝ }
 {
-    let mut k = 0;
-    while k < row.len() {
-        if row[k] > Network::MAX_LENGTH {
-            return Cause::LENGTH;
-        }
-        k += 1;
+    if !lengths_fit(row) {
+        return Cause::LENGTH;
     }
     if i < row.len() && row[i] != 0 {
         return Cause::LENGTH;
@@ -116,27 +126,27 @@ pub fn judge_row(i: usize, row: &[u32]) -> u32
 
 // ---- the blocks of a piece
 
-// Whether both blocks of a split pass, in the reversed matrix of a piece of m places: columns count from its end.
-fn split_passes(matrix: &[[u32; Network::ROW_PLACES]], m: usize, split: Split) -> bool
-    requires { ⌜ Cut m (splitOf split) ⌝ }
-    ensures { λ r. ⌜ r ≡ every (passesIn (now (matrix .entry)) m) (windows (splitOf split ∷ [])) ⌝ }
+// Whether both blocks of a split pass in the table of a piece.
+fn split_passes(lengths: &[u32], split: Split) -> bool
+    requires { ⌜ (split .first ≤ split .middle) × (split .middle ≤ split .end) ⌝ }
+    ensures { λ r. ⌜ r ≡ every (passesIn (now (lengths .entry))) (windows (splitOf split ∷ [])) ⌝ }
 {
     let low = split.middle - split.first;
     let high = split.end - split.middle;
-    monge::is_monge(matrix, split.first, m - split.end, low, high)
-        && monge::is_monge(matrix, split.middle, m - split.middle, high, low)
+    monge::block_is_monge(lengths, split.first, split.middle, low, high)
+        && monge::block_is_monge(lengths, split.middle, split.first, high, low)
 }
 
-// Whether every block of a piece of m places passes in its reversed matrix; `list` is the list of splits.
-fn blocks_pass(matrix: &[[u32; Network::ROW_PLACES]], m: usize, list: &[u8]) -> bool
+// Whether every block of a piece of m places passes in its table; `list` is the list of splits.
+fn blocks_pass(lengths: &[u32], m: usize, list: &[u8]) -> bool
     requires { ⌜ (1 ≤ m) × (m ≤ maxSize) × (now list ≡ flattened allSplits) ⌝ }
-    ensures { λ r. ⌜ r ≡ every (passesIn (now (matrix .entry)) m) (windowsOf m) ⌝ }
+    ensures { λ r. ⌜ r ≡ every (passesIn (now (lengths .entry))) (windowsOf m) ⌝ }
 {
     let first = splits::first_split(m);
     let mut j = 0;
     while j + 1 < m {
         let split = splits::split_in(list, first + j);
-        if !split_passes(matrix, m, split) {
+        if !split_passes(lengths, split) {
             return false;
         }
         j += 1;
@@ -155,9 +165,8 @@ pub fn judge_blocks(m: u32, lengths: &[u32]) -> u32
     if cause != Cause::NONE {
         return cause;
     }
-    let matrix = monge::reversed(m, lengths);
     let list = splits::table();
-    if blocks_pass(&matrix, m as usize, &list) {
+    if blocks_pass(lengths, m as usize, &list) {
         return Cause::NONE;
     }
     Cause::BLOCK

@@ -27,7 +27,7 @@ use Rattle.definitions.specs.Laws.Members.{every-is, all-at}
 use Rattle.logic.specs.Tests.{split-at}
 use Rattle.basics.specs.ListLaws.{every-at, length-padded}
 use Rattle.splits.specs.Windows.{Inside, windows-inside}
-use Rattle.monge.specs.Copies.{entry-in}
+use Rattle.monge.specs.PieceTables.{entry-in}
 use Rattle.monge.specs.Matrix.{at, rowsIn}
 use Rattle.basics.specs.Sequences.{getD-each, length-upFrom, map-at}
 use Rattle.basics.specs.PiecePlaces.{block-rows, block-cols, row-vertex, col-vertex, entry-at}

@@ -27,7 +27,7 @@ rowFits lengths cols i = all (λ k. leb (rectangleOf lengths i k) maxLength) col
 unfoldable pub lengthsFit : List ℕ → ℕ → ℕ → Bool
 lengthsFit lengths rows cols = all (rowFits lengths cols) rows
 
--- the sizes and the lengths: what is judged before the rectangle is loaded
+-- the sides and the lengths: what is judged before the inequality
 unfoldable pub judgeLengths : ℕ → ℕ → List ℕ → ℕ
 judgeLengths rows cols lengths =
     firstCause (judgeSides rows cols

@@ -14,11 +14,11 @@ use Rattle.judgements.proofs.blocks_pass.Statement.{statement}
 use Rattle.judgements.proofs.blocks_pass.Tie as tie
 
 abbrev Inv-loop : tie.InvT-loop
-Inv-loop matrix m list first j₀ j =
-    (j ≤ m - 1) × (every (passesIn matrix m) (windowsOf m) ≡ every (passesIn matrix m) (windows (drop j (splitsOf m))))
+Inv-loop lengths m list first j₀ j =
+    (j ≤ m - 1) × (every (passesIn lengths) (windowsOf m) ≡ every (passesIn lengths) (windows (drop j (splitsOf m))))
 
 abbrev μ-loop : tie.MeasureT-loop
-μ-loop matrix m list first j₀ j = m - j
+μ-loop lengths m list first j₀ j = m - j
 
 loop-holds : tie.Need-loop-holds Inv-loop μ-loop
 unfolding windowsOf
@@ -27,32 +27,34 @@ loop-holds c = (search needs, refl)
 add-split-in : tie.Need-add-split-in Inv-loop μ-loop
 add-split-in c =
     let s = c .before .before in
-    omega (arith, s .first-split .ensures, first-small (s .before .before .args .m) (s .before .before .pre .1))
+    let start = s .before .before .before in
+    omega (arith, s .first-split .ensures, first-small (start .args .m) (start .pre .1))
 
 split-passes-requires : tie.Need-split-passes-requires Inv-loop μ-loop
 split-passes-requires c κs =
     let l = c .before .before in
-    let s = l .before .before .before in
-    in-order _ (s .pre .1) _ (s .pre .2) _ (l .before .first-split .ensures) (l .loop .j) (c .before .loop-test .taken) _ (c .split-in .ensures)
+    let s = l .before .before .before .before in
+    let cut = in-order _ (s .pre .1) _ (s .pre .2) _ (l .before .first-split .ensures) (l .loop .j) (c .before .loop-test .taken) _ (c .split-in .ensures) in
+    (omega (arith, cut .before), omega (arith, cut .after))
 
 returns : tie.Need-returns Inv-loop μ-loop
 returns c =
     let i = c .before .before in
     let l = i .before .before in
-    let s = l .before .before .before in
+    let s = l .before .before .before .before in
     stopped _ (s .pre .1) _ (s .pre .2) _ (l .before .first-split .ensures) (l .loop .j) (i .before .loop-test .taken) _ (i .split-in .ensures) _ (l .loop .inv .1) (sym (c .before .split-passes .ensures) ∙ not-true _ (c .if1 .taken))
 
 loop-again : tie.Need-loop-again Inv-loop μ-loop
 loop-again c =
     let i = c .before .before in
     let l = i .before .before in
-    let s = l .before .before .before in
+    let s = l .before .before .before .before in
     (search needs, went _ (s .pre .1) _ (s .pre .2) _ (l .before .first-split .ensures) (l .loop .j) (i .before .loop-test .taken) _ (i .split-in .ensures) _ (l .loop .inv .1) (sym (c .before .split-passes .ensures) ∙ not-false _ (c .if1 .left)))
 
 returns-2 : tie.Need-returns-2 Inv-loop μ-loop
 unfolding every windows
 returns-2 c =
-    let s = c .before .before .before .before in
+    let s = c .before .before .before .before .before in
     rw (c .before .loop .inv .1, ended (s .args .m) (s .pre .1) (c .before .loop .j) (c .loop-test .left))
 
 pub blocks-pass-spec : {M : Type 1} → statement M

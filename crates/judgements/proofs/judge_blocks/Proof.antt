@@ -1,4 +1,4 @@
--- `judge_blocks`: the buffer, the size, then the windows of the reversed matrix in place of the blocks.
+-- `judge_blocks`: the buffer, the size, then the blocks of the table in place of those of the piece.
 use mathlib.Core.Path.{_≡_, refl, sym, _∙_}
 use mathlib.Core.Bool.{cond}
 use mathlib.Core.Logic.{_≢_}
@@ -15,7 +15,6 @@ use Rattle.definitions.specs.Blocks.{windowsOf}
 use Rattle.definitions.specs.Judgement.{judgeSize, judgeBlocks}
 use Rattle.definitions.specs.Entries.{hasPlaces}
 use Rattle.definitions.specs.Laws.Causes.{refused, passed, last, size-in}
-use Rattle.monge.specs.Matrix.{reversed}
 use Rattle.basics.specs.Sequences.{length-upFrom}
 use Rattle.judgements.specs.LentPieces.{tableIn, judgeTable}
 use Rattle.judgements.specs.PieceJudgement.{passesIn, blocks-windows}
@@ -36,11 +35,11 @@ module _ (m : ℕ) (lengths : List ℕ) where
       inside : (1 ≤ m) × (m ≤ maxSize)
       inside = size-in m (sym size ∙ fits)
 
-      judged : judgeTable m lengths ≡ cond (every (passesIn (reversed m lengths) m) (windowsOf m)) 0 7
+      judged : judgeTable m lengths ≡ cond (every (passesIn lengths) (windowsOf m)) 0 7
       unfolding judgeTable hasPlaces tableIn judgeBlocks sizeOf
       judged =
           rw (eq-eqb (length lengths) tablePlaces full, ← size)
-          (passed 0 _ refl ∙ passed r _ fits ∙ last _ ∙ rw (blocks-windows m lengths (tableIn m lengths) (length-upFrom 1 m) refl (inside .1)))
+          (passed 0 _ refl ∙ passed r _ fits ∙ last _ ∙ rw (blocks-windows m lengths (tableIn m lengths) (length-upFrom 1 m) refl (inside .1) full))
 
 returns : tie.Need-returns
 returns c = short _ _ (c .if1 .taken)
@@ -50,25 +49,23 @@ returns-2 c = outside _ _ (c .before .before .if1 .left) _ (c .before .judge-siz
 
 blocks-pass-requires : tie.Need-blocks-pass-requires
 blocks-pass-requires c κs =
-    let s = c .before .before .before .before in
+    let s = c .before .before in
     let h = inside _ (s .before .before .before .before .args .lengths .now) (s .before .before .if1 .left) _ (s .before .judge-size .ensures) (s .if2 .left) in
-    (h .0, h .1, c .before .before .table .ensures)
+    (h .0, h .1, c .before .table .ensures)
 
 returns-3 : tie.Need-returns-3
 returns-3 c =
-    let t = c .before .before .before .before .before in
-    let s = t .before in
+    let s = c .before .before .before .before in
     sym (judged _ _ (s .before .before .if1 .left) _ (s .before .judge-size .ensures) (s .if2 .left)
-    ∙ rw (← t .reversed .ensures, ← c .before .blocks-pass .ensures, c .if3 .taken))
+    ∙ rw (← c .before .blocks-pass .ensures, c .if3 .taken))
 
 returns-4 : tie.Need-returns-4
 returns-4 c =
-    let t = c .before .before .before .before .before in
-    let s = t .before in
+    let s = c .before .before .before .before in
     sym (judged _ _ (s .before .before .if1 .left) _ (s .before .judge-size .ensures) (s .if2 .left)
-    ∙ rw (← t .reversed .ensures, ← c .before .blocks-pass .ensures, c .if3 .left))
+    ∙ rw (← c .before .blocks-pass .ensures, c .if3 .left))
 
 pub judge-blocks-spec : {M : Type 1} → statement M
 judge-blocks-spec =
-    tie.close (tie.spec returns (λ c κs. search needs) returns-2 (λ c κs. search needs) (λ c κs. search needs) (λ c. search needs)
-    (λ c. search needs) blocks-pass-requires returns-3 returns-4)
+    tie.close (tie.spec returns (λ c κs. search needs) returns-2 (λ c κs. search needs) (λ c. search needs) blocks-pass-requires returns-3
+    returns-4)

@@ -12,7 +12,7 @@ use Rattle.definitions.specs.Limits.{rowPlaces}
 use Rattle.definitions.specs.Lists.{firstCause}
 use Rattle.definitions.specs.Judgement.{judgeRow, judgeRows}
 use Rattle.definitions.specs.Laws.Causes.{refused, passed, last}
-use Rattle.monge.specs.Copies.{length-rows, row-in}
+use Rattle.monge.specs.PieceTables.{length-rows, row-in}
 use Rattle.monge.specs.Matrix.{rowsIn}
 use Rattle.judgements.proofs.judge_rows.Statement.{statement}
 use Rattle.judgements.proofs.judge_rows.Tie as tie
