@@ -94,7 +94,7 @@ pub const STACK_RUN_SESSION: usize = 8704;
 /// Bytes of stack for [`build_index`].
 pub const STACK_BUILD_INDEX: usize = 7680;
 /// Bytes of stack for [`ask_index`].
-pub const STACK_ASK_INDEX: usize = 1152;
+pub const STACK_ASK_INDEX: usize = 640;
 /// Bytes of stack for [`write_listing`].
 pub const STACK_WRITE_LISTING: usize = 245_760;
 

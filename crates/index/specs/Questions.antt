@@ -4,8 +4,10 @@
 --   ask-inside ask-left ask-right ask-both                 a question in the cases that the code tests
 --   ask-least                                              as built, the index gives the least of the columns asked for
 --   ask-same ask-moved                                     it reads the columns of the stretch and its places only
---   lesser-between                                         the lesser of two columns of a stretch is one
---   find-end find-whole find-first find-second find-both              what the code has found, case by case
+--   find-whole find-end find-first find-second find-both   what the code has found, case by case
+--   find-inside find-cut find-two                          where it lies; a stretch that is not covered, and that it has two columns
+--   start-both until-end until-first until-both            .. up to an end, alone and with a best before it
+--   from-end from-second from-both                         .. from a first on, with a best behind it
 use mathlib.Core.Path.{_≡_, refl, sym, ap, _∙_, subst}
 use mathlib.Core.Bool.{true, false, cond, _&&_}
 use mathlib.Core.List.{List, _++_}
@@ -19,7 +21,7 @@ use Rattle.definitions.specs.Best.{Best, nobody, by, lesser, leastFrom}
 use Rattle.definitions.specs.Index.{columnOf, leastIn, inStretch, heldIn, ask}
 use Rattle.definitions.specs.Laws.LeastLaws.{leastFrom-same}
 use Rattle.logic.specs.Tests.{Order, less, more, order, Truth, holds, fails, truth, and-left, and-right}
-use Rattle.heap_laws.specs.Lesser.{lesser-nobody}
+use Rattle.heap_laws.specs.Lesser.{lesser-nobody, lesser-assoc}
 use Rattle.index.specs.HeldRows.{heldFrom, HeldAt}
 use Rattle.index.specs.PutPlaces.{holds-first, holds-rest, holds-left, holds-right}
 use Rattle.index.specs.StretchHalves.{leastFrom-split, leastFrom-nobody, least-some, least-one, held-halves, length-held}
@@ -309,15 +311,6 @@ ask-moved row held held′ a b (suc d) p p′ s k o l h = go (meets row held a b
 
 -- ---- what the code has found
 
--- the lesser of two is one of them
-pub lesser-between : (low high l r c x y z : ℕ) → by c z ≡ lesser (by l x) (by r y) → low ≤ l → l < high → low ≤ r → r < high → (low ≤ c) × (c < high)
-unfolding lesser columnOf
-lesser-between low high l r c x y z e a b a′ b′ = go (order y x)
-  where
-    go : Order y x → (low ≤ c) × (c < high)
-    go (less t _) = let q : c ≡ r = ap columnOf (rw t at e) in (omega arith, omega arith)
-    go (more t _) = let q : c ≡ l = ap columnOf (rw t at e) in (omega arith, omega arith)
-
 module _ (row : ℕ → ℕ) (held : List ℕ) (p s k a b : ℕ) where
   -- a column with its length
   abbrev at : ℕ → Best
@@ -327,35 +320,84 @@ module _ (row : ℕ → ℕ) (held : List ℕ) (p s k a b : ℕ) where
   abbrev asked : ℕ → ℕ → ℕ → Best
   asked p s k = ask k row held a b p s k
 
-  not-covered : (leb a s && leb (s + k) b) ≡ false → (s < a) ⊎ (b < s + k)
-  not-covered h = go (truth (leb a s))
-    where
-      go : Truth (leb a s) → (s < a) ⊎ (b < s + k)
-      go (holds t) = inr (leb-false (s + k) b (rw t at h))
-      go (fails t) = inl (leb-false a s t)
-
-  pub find-end : (r : ℕ) → 1 ≤ k → (leb a s && leb (s + k) b) ≡ true → r ≡ heldIn held p s k → at r ≡ asked p s k
-  find-end r o h e =
-      let l = leb-true a s (and-left (leb a s) (leb (s + k) b) h) in
-      let m = leb-true (s + k) b (and-right (leb a s) (leb (s + k) b) h) in
-      ap at e ∙ sym (ask-inside row held a b p s k o (omega arith) (omega arith) l m)
+  -- what is asked for is a column of the stretch
+  pub find-inside : (r : ℕ) → 1 ≤ k → at r ≡ asked p s k → (s ≤ r) × (r < s + k)
+  find-inside r o e = let w = subst (Answers row held a b s k) (sym e) (ask-answers row held a b k p s k o (omega arith)) in (w .0, w .1)
 
   -- all of them are asked for
   pub find-whole : (r : ℕ) → 1 ≤ k → a ≤ s → s + k ≤ b → r ≡ heldIn held p s k → at r ≡ asked p s k
   find-whole r o l m e = ap at e ∙ sym (ask-inside row held a b p s k o (omega arith) (omega arith) l m)
 
-  pub find-first : (r : ℕ) → s < b → a < s + k → (leb a s && leb (s + k) b) ≡ false → b ≤ s + k / 2 → at r ≡ asked (p + 1) s (k / 2) → at r ≡ asked p s k
-  find-first r h j n m q = q ∙ sym (ask-left row held a b p s k h j (not-covered n) m)
+  pub find-end : (r : ℕ) → 1 ≤ k → (leb a s && leb (s + k) b) ≡ true → r ≡ heldIn held p s k → at r ≡ asked p s k
+  find-end r o h e =
+      let l = leb-true a s (and-left (leb a s) (leb (s + k) b) h) in
+      let m = leb-true (s + k) b (and-right (leb a s) (leb (s + k) b) h) in
+      find-whole r o l m e
 
-  pub find-second : (r : ℕ) → s < b → a < s + k → (leb a s && leb (s + k) b) ≡ false → s + k / 2 ≤ a
-      → at r ≡ asked (p + k / 2) (s + k / 2) (k - k / 2) → at r ≡ asked p s k
-  find-second r h j n m q = q ∙ sym (ask-right row held a b p s k h j (not-covered n) m)
-
-  pub find-both : (l r c : ℕ) → (leb a s && leb (s + k) b) ≡ false → a < s + k / 2 → s + k / 2 < b
-      → at l ≡ asked (p + 1) s (k / 2) → at r ≡ asked (p + k / 2) (s + k / 2) (k - k / 2) → at c ≡ lesser (at l) (at r)
-      → at c ≡ asked p s k
-  find-both l r c n h j x y z = z ∙ rw (x, y) (sym (ask-both row held a b p s k (omega arith) (omega arith) (not-covered n)))
+  pub find-cut : (leb a s && leb (s + k) b) ≡ false → (s < a) ⊎ (b < s + k)
+  find-cut h = go (truth (leb a s))
+    where
+      go : Truth (leb a s) → (s < a) ⊎ (b < s + k)
+      go (holds t) = inr (leb-false (s + k) b (rw t at h))
+      go (fails t) = inl (leb-false a s t)
 
   -- a stretch that is neither covered nor missed has two columns
-  pub find-two : s < b → a < s + k → (leb a s && leb (s + k) b) ≡ false → 2 ≤ k
-  find-two h j n = two row held a b s k h j (not-covered n)
+  pub find-two : s < b → a < s + k → (s < a) ⊎ (b < s + k) → 2 ≤ k
+  find-two h j u = two row held a b s k h j u
+
+  pub find-first : (r : ℕ) → s < b → a < s + k → (s < a) ⊎ (b < s + k) → b ≤ s + k / 2 → at r ≡ asked (p + 1) s (k / 2) → at r ≡ asked p s k
+  find-first r h j u m q = q ∙ sym (ask-left row held a b p s k h j u m)
+
+  pub find-second : (r : ℕ) → s < b → a < s + k → (s < a) ⊎ (b < s + k) → s + k / 2 ≤ a
+      → at r ≡ asked (p + k / 2) (s + k / 2) (k - k / 2) → at r ≡ asked p s k
+  find-second r h j u m q = q ∙ sym (ask-right row held a b p s k h j u m)
+
+  pub find-both : (r c : ℕ) → (s < a) ⊎ (b < s + k) → a < s + k / 2 → s + k / 2 < b
+      → at r ≡ asked (p + k / 2) (s + k / 2) (k - k / 2) → at c ≡ lesser (asked (p + 1) s (k / 2)) (at r)
+      → at c ≡ asked p s k
+  find-both r c u h j x z = z ∙ rw x (sym (ask-both row held a b p s k (omega arith) (omega arith) u))
+
+  -- the first half is looked up whole
+  pub start-both : (l r : ℕ) → a ≤ s → s + k / 2 < b → b < s + k → l ≡ heldIn held (p + 1) s (k / 2)
+      → at r ≡ lesser (at l) (asked (p + k / 2) (s + k / 2) (k - k / 2))
+      → at r ≡ asked p s k
+  start-both l r h j m e q =
+      let x = ask-inside row held a b (p + 1) s (k / 2) (omega arith) (omega arith) (omega arith) h (omega arith) in
+      q ∙ rw (e, sym x) (sym (ask-both row held a b p s k (omega arith) (omega arith) (inr m)))
+
+  -- with a best before them
+  pub until-end : (best c r : ℕ) → 1 ≤ k → a ≤ s → s + k ≤ b → c ≡ heldIn held p s k → at r ≡ lesser (at best) (at c) → at r ≡ lesser (at best) (asked p s k)
+  until-end best c r o l m e q = q ∙ ap (lesser (at best)) (find-whole c o l m e)
+
+  pub until-first : (best r : ℕ) → s < b → a ≤ s → b < s + k → b ≤ s + k / 2 → at r ≡ lesser (at best) (asked (p + 1) s (k / 2)) → at r ≡ lesser (at best) (asked p s k)
+  until-first best r h j u m q = q ∙ ap (lesser (at best)) (sym (ask-left row held a b p s k h (omega arith) (inr u) m))
+
+  pub until-both : (best c next r : ℕ) → a ≤ s → s + k / 2 < b → b < s + k → c ≡ heldIn held (p + 1) s (k / 2) → at next ≡ lesser (at best) (at c)
+      → at r ≡ lesser (at next) (asked (p + k / 2) (s + k / 2) (k - k / 2))
+      → at r ≡ lesser (at best) (asked p s k)
+  until-both best c next r h j m e n q =
+      let x = ask-inside row held a b (p + 1) s (k / 2) (omega arith) (omega arith) (omega arith) h (omega arith) in
+      let l : at next ≡ lesser (at best) (asked (p + 1) s (k / 2)) = n ∙ ap (lesser (at best)) (ap at e ∙ sym x) in
+      q
+      ∙ ap (λ (y : Best). lesser y (asked (p + k / 2) (s + k / 2) (k - k / 2))) l
+      ∙ lesser-assoc (at best) (asked (p + 1) s (k / 2)) (asked (p + k / 2) (s + k / 2) (k - k / 2))
+      ∙ ap (lesser (at best)) (sym (ask-both row held a b p s k (omega arith) (omega arith) (inr m)))
+
+  -- with a best behind them
+  pub from-end : (best c r : ℕ) → 1 ≤ k → a ≤ s → s + k ≤ b → c ≡ heldIn held p s k → at r ≡ lesser (at c) (at best) → at r ≡ lesser (asked p s k) (at best)
+  from-end best c r o l m e q = q ∙ ap (λ (y : Best). lesser y (at best)) (find-whole c o l m e)
+
+  pub from-second : (best r : ℕ) → s < a → a < s + k → s + k ≤ b → s + k / 2 ≤ a → at r ≡ lesser (asked (p + k / 2) (s + k / 2) (k - k / 2)) (at best)
+      → at r ≡ lesser (asked p s k) (at best)
+  from-second best r u h j m q = q ∙ ap (λ (y : Best). lesser y (at best)) (sym (ask-right row held a b p s k (omega arith) h (inl u) m))
+
+  pub from-both : (best c next r : ℕ) → s < a → a < s + k / 2 → s + k ≤ b → c ≡ heldIn held (p + k / 2) (s + k / 2) (k - k / 2) → at next ≡ lesser (at c) (at best)
+      → at r ≡ lesser (asked (p + 1) s (k / 2)) (at next)
+      → at r ≡ lesser (asked p s k) (at best)
+  from-both best c next r u h j e n q =
+      let x = ask-inside row held a b (p + k / 2) (s + k / 2) (k - k / 2) (omega arith) (omega arith) (omega arith) (omega arith) (omega arith) in
+      let l : at next ≡ lesser (asked (p + k / 2) (s + k / 2) (k - k / 2)) (at best) = n ∙ ap (λ (y : Best). lesser y (at best)) (ap at e ∙ sym x) in
+      q
+      ∙ ap (lesser (asked (p + 1) s (k / 2))) l
+      ∙ sym (lesser-assoc (asked (p + 1) s (k / 2)) (asked (p + k / 2) (s + k / 2) (k - k / 2)) (at best))
+      ∙ ap (λ (y : Best). lesser y (at best)) (sym (ask-both row held a b p s k (omega arith) (omega arith) (inl u)))

@@ -2,7 +2,7 @@
 // found by halves. It is built and asked for a lent rectangle, and for windows of an array of rows.
 ghost use mathlib.Core.Path.{_≡_};
 ghost use mathlib.Core.Bool.{_&&_};
-ghost use Prim.Native.Nat.{_+_, _≤_, _<_};
+ghost use Prim.Native.Nat.{ℕ, _+_, _≤_, _<_};
 ghost use lib.Dec.{leb};
 ghost use lib.ListN.{length};
 ghost use Rattle.definitions.specs.Limits.{rowPlaces, indexRowPlaces};
@@ -66,7 +66,92 @@ fn covers(first: usize, end: usize, start: usize, count: usize) -> bool
     first <= start && start + count <= end
 }
 
-// The least of those from `first` up to `end`: the lesser of the two halves. A half that is asked for whole is looked up where it is.
+// The lesser of `best`, a column before these, and of those up to `end`; `best` if they are equal. The promise is
+// of a question from any column up to `start`.
+fn find_until(
+    row: &[u32; Network::ROW_PLACES],
+    held: &[u8; Network::INDEX_PLACES],
+    end: usize,
+    best: usize,
+    at: usize,
+    start: usize,
+    count: usize,
+) -> usize
+    requires sized { ⌜ (1 ≤ count) × (start + count ≤ rowPlaces) × (at + count ≤ rowPlaces) ⌝ }
+    requires some { ⌜ (start < end) × (best < rowPlaces) ⌝ }
+    ensures { λ r. ⌜ ((a : ℕ) → a ≤ start → by r (lengthsIn (now (row .entry)) r) ≡ lesser (by best (lengthsIn (now (row .entry)) best)) (ask count (lengthsIn (now (row .entry))) (now (held .entry)) a end at start count)) ⌝ }
+{
+    if start + count <= end {
+        let c = held_column(held, at, start, count);
+        return lesser_column(row, best, c);
+    }
+    let half = count / 2;
+    let middle = start + half;
+    if end <= middle {
+        return find_until(row, held, end, best, at + 1, start, half);
+    }
+    let c = held_column(held, at + 1, start, half);
+    let next = lesser_column(row, best, c);
+    find_until(row, held, end, next, at + half, middle, count - half)
+}
+
+// The lesser of those from `first` on and of `best`, a column behind these; the former if they are equal. The promise is
+// of a question up to any end that is not before theirs.
+fn find_from(
+    row: &[u32; Network::ROW_PLACES],
+    held: &[u8; Network::INDEX_PLACES],
+    first: usize,
+    best: usize,
+    at: usize,
+    start: usize,
+    count: usize,
+) -> usize
+    requires sized { ⌜ (1 ≤ count) × (start + count ≤ rowPlaces) × (at + count ≤ rowPlaces) ⌝ }
+    requires some { ⌜ (first < start + count) × (best < rowPlaces) ⌝ }
+    ensures { λ r. ⌜ ((b : ℕ) → start + count ≤ b → by r (lengthsIn (now (row .entry)) r) ≡ lesser (ask count (lengthsIn (now (row .entry))) (now (held .entry)) first b at start count) (by best (lengthsIn (now (row .entry)) best))) ⌝ }
+{
+    if first <= start {
+        let c = held_column(held, at, start, count);
+        return lesser_column(row, c, best);
+    }
+    let half = count / 2;
+    let middle = start + half;
+    if middle <= first {
+        return find_from(row, held, first, best, at + half, middle, count - half);
+    }
+    let c = held_column(held, at + half, middle, count - half);
+    let next = lesser_column(row, c, best);
+    find_from(row, held, first, next, at + 1, start, half)
+}
+
+// The least of those up to `end`.
+fn find_start(
+    row: &[u32; Network::ROW_PLACES],
+    held: &[u8; Network::INDEX_PLACES],
+    end: usize,
+    at: usize,
+    start: usize,
+    count: usize,
+) -> usize
+    requires sized { ⌜ (1 ≤ count) × (start + count ≤ rowPlaces) × (at + count ≤ rowPlaces) ⌝ }
+    requires some { ⌜ start < end ⌝ }
+    ensures least { λ r. ⌜ ((a : ℕ) → a ≤ start → by r (lengthsIn (now (row .entry)) r) ≡ ask count (lengthsIn (now (row .entry))) (now (held .entry)) a end at start count) ⌝ }
+    ensures inside { λ r. ⌜ (start ≤ r) × (r < start + count) ⌝ }
+{
+    if start + count <= end {
+        return held_column(held, at, start, count);
+    }
+    let half = count / 2;
+    let middle = start + half;
+    if end <= middle {
+        return find_start(row, held, end, at + 1, start, half);
+    }
+    let c = held_column(held, at + 1, start, half);
+    find_until(row, held, end, c, at + half, middle, count - half)
+}
+
+// The least of those from `first` up to `end`. Where both halves are asked for, what the second gives goes along as the best behind the first.
+// These functions call themselves as their last act only, so that the compiler can make loops of them.
 fn find(
     row: &[u32; Network::ROW_PLACES],
     held: &[u8; Network::INDEX_PLACES],
@@ -92,19 +177,8 @@ fn find(
     if middle <= first {
         return find(row, held, first, end, at + half, middle, count - half);
     }
-    if first <= start {
-        let l = held_column(held, at + 1, start, half);
-        let r = find(row, held, first, end, at + half, middle, count - half);
-        return lesser_column(row, l, r);
-    }
-    if start + count <= end {
-        let l = find(row, held, first, end, at + 1, start, half);
-        let r = held_column(held, at + half, middle, count - half);
-        return lesser_column(row, l, r);
-    }
-    let l = find(row, held, first, end, at + 1, start, half);
-    let r = find(row, held, first, end, at + half, middle, count - half);
-    lesser_column(row, l, r)
+    let r = find_start(row, held, end, at + half, middle, count - half);
+    find_from(row, held, first, r, at + 1, start, half)
 }
 
 // The lowest column of least length from `first` up to `end`, of the `cols` columns from col0 on and counted from there. 0 where these leave the row, and for
