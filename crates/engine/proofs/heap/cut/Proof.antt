@@ -1,8 +1,10 @@
 -- `cut` leaves what the interval has before and after the column.
 use mathlib.Core.Path.{_∙_}
-use Prim.Native.Nat.{_+_}
+use Prim.Native.Nat.{_+_, _<_}
 use native.Mathlib.Omega.{arith}
 use borrow.Author.Needs.{needs}
+use Rattle.definitions.specs.Limits.{rowPlaces}
+use Rattle.definitions.specs.HeapWords.{lastAt}
 use Rattle.engine.specs.Heap.Clear.{CanReplace, MakeRoomNeeds, cut-needs, replace-room, left-room, right-room, replace-done, cut-done}
 use Rattle.engine.proofs.heap.cut.Statement.{statement}
 use Rattle.engine.proofs.heap.cut.Tie as tie
@@ -23,6 +25,29 @@ cleared c = c .before .before .before .before
 
 abbrev first : tie.After-put-rest2 → tie.After-put-rest
 first c = c .before .before .before .before
+
+-- ---- bytes
+
+-- no column of the interval is above 23, so a byte holds each of them and the one after it; nothing is subtracted, so 0 is no case of its own
+last-small : (c : tie.Start) → lastAt (c .args .heap .now) (c .args .place) < rowPlaces
+last-small c = omega (arith, c .pre .1 .0, c .pre .1 .1 .inside)
+
+cast-first : tie.Need-cast-first
+cast-first c =
+    let s = c .before .before .before .before .before .before in
+    omega (arith, last-small s, s .pre .0 .low, s .pre .0 .high, c .first .ensures .is)
+
+cast-last : tie.Need-cast-last
+cast-last c = omega (arith, last-small (start c), c .last .ensures .is)
+
+cast-column : tie.Need-cast-column
+cast-column c = omega (arith, last-small (start c), start c .pre .0 .high)
+
+add-next : tie.Need-add-next
+add-next c = omega (arith, last-small (start c), start c .pre .0 .high)
+
+add-end : tie.Need-add-end
+add-end c = omega (arith, last-small (start c), c .last .ensures .is)
 
 -- ---- needs
 
@@ -49,12 +74,6 @@ first-requires c κs = let p = c .before .before .before .before .before .pre .0
 last-requires : tie.Need-last-requires
 last-requires c κs = let p = c .before .before .before .before .before .before .before .pre .0 in omega (arith, p .inside, p .room .words)
 
-add-end : tie.Need-add-end
-add-end c = omega (arith, c .last .ensures .fits)
-
-add-rest-len : tie.Need-add-rest-len
-add-rest-len c = omega (arith, start (c .before) .pre .0 .high, c .before .last .ensures .is, c .before .last .ensures .fits)
-
 add-number : tie.Need-add-number
 add-number c = omega (arith, c .before .rest-len .ensures .1, c .rest-len2 .ensures .1)
 
@@ -78,10 +97,6 @@ add-put-rest : tie.Need-add-put-rest
 add-put-rest c =
     let p = start (read (measured (cleared (c .before .before .before)))) .pre .0 in omega (arith, p .inside, p .room .small, measured (cleared (c .before .before .before)) .before .rest-len .ensures .1)
 
-add-put-rest-2 : tie.Need-add-put-rest-2
-add-put-rest-2 c =
-    omega (arith, start (read (measured (cleared (c .before .before .before)))) .pre .0 .high, read (measured (cleared (c .before .before .before))) .last .ensures .is, read (measured (cleared (c .before .before .before))) .last .ensures .fits)
-
 put-rest-requires-2 : tie.Need-put-rest-requires-2
 put-rest-requires-2 c κs =
     let z = right-room _ _ _ _ _ _ _ _ _ _ _ _ (can (read (measured (cleared (c .before .before .before))))) (measured (cleared (c .before .before .before)) .before .rest-len .ensures .0) (measured (cleared (c .before .before .before)) .rest-len2 .ensures .0) (omega arith) _ (cleared (c .before .before .before) .make-room .ensures) in
@@ -100,6 +115,7 @@ returns c =
 
 pub cut-spec : {M : Type 1} → statement M
 cut-spec =
-    tie.close (tie.spec parent-requires first-requires last-requires add-end (λ c κs. search needs) add-rest-len
-    (λ c κs. search needs) add-number add-make-room make-room-requires put-rest-requires add-put-rest add-put-rest-2
-    put-rest-requires-2 same-length returns)
+    tie.close (tie.spec parent-requires first-requires cast-first last-requires cast-last cast-column add-next add-end
+    (λ c. search needs) (λ c. search needs) (λ c κs. search needs) (λ c. search needs) (λ c. search needs)
+    (λ c κs. search needs) add-number add-make-room make-room-requires (λ c. search needs) (λ c. search needs)
+    put-rest-requires add-put-rest (λ c. search needs) (λ c. search needs) put-rest-requires-2 same-length returns)
