@@ -1,4 +1,4 @@
--- The relations of the engine, from what a caller sees down to the words, one sentence each; this file defines nothing.
+-- The relations of the engine and of the heap, from what a caller sees down to the words, one sentence each; this file defines nothing.
 -- A relation that belongs to a function f is named after it: FNeeds is what f needs, FLeaves what it leaves, FKeeps what its loop keeps. Needs say that some
 -- model fits the arrays; Leaves hold for every model that fitted them. A relation of a state has a name of its own.
 --
@@ -73,7 +73,7 @@
 --   Accepted Sizes Sides  what a session that is not turned away may rely on; its buffers, its numbers
 --   Front                 so many numbers at each of the first places of a buffer, the rest as it was
 --
--- The heap of one block: its words against the model (`HeldModel` and `Index` of the definitions, `Heap/HeapCalls`, `Heap/LeastColumn`, `Heap/RowBest`, `Heap/Holds`)
+-- The heap of one block, in the crate `heap`: its words against the model (`HeldModel` and `Index` of the definitions, `HeapCalls`, `LeastColumn`, `RowBest`, `Holds`)
 --   Checked Holds         the block that is lent is checked; the words hold a given model of it
 --   ActivateGiven ActivateNeeds Leaves    the model is held, and the activation is not refused; for some model; the next model is held, for every model
 --   MinExtracted ExtractMinLeaves    the column of least sum is extracted and answered, with its parent; for every model
@@ -87,14 +87,14 @@
 --   PutWonNeeds Leaves    the columns that are won, with room for the row's interval; it stands in their place
 --   Owned Where           the parent and the sum of a column of an interval; a column lies in an interval, or nobody has it
 --
--- The columns that a new row wins (`Heap/Search`, `Heap/Bisect`)
+-- The columns that a new row wins (`Search`, `Bisect`)
 --   SearchNeeds Leaves    what the search may rely on; the intervals that meet the won columns, and those columns
 --   TurnLeaves EndOfLeaves     the column at which a test begins to hold; one past the last column before it
 --   FirstYesNeeds Between      a question whose answers do not fall back; where they turn to yes
 --   Asked                 a number that the question may be asked of
 --   WinsBeside            where it says so, no column is won
 --
--- The words (`Heap/Laid`, `Heap/Clear`, `Heap/WordLaws`)
+-- The words (`Laid`, `Clear`, `WordLaws`)
 --   CutNeeds Leaves       a column of an interval; the interval gives way to its rests
 --   Cleared               the same of some columns and the intervals that meet them, with a gap between the rests
 --   CanReplace Replaced   some intervals can give way to two rests; they have

@@ -1,0 +1,777 @@
+// The interval heap of one block, in words that the caller lends: how many intervals there are, whether a row is activated, then the intervals,
+// packed from the front by rising column. `preparation::HeapWords` says which word is which.
+ghost use mathlib.Core.Path.{_≡_};
+ghost use mathlib.Core.Bool.{true, false};
+ghost use Prim.Native.Nat.{_+_, _-_, _≤_, _<_};
+ghost use lib.ListN.{length, replicate};
+ghost use Rattle.definitions.specs.Limits.{rowPlaces};
+ghost use Rattle.definitions.specs.HeapWords.{headWords, heapWords, countOf, markOf, parentAt, firstAt, lastAt, bestColumnAt, bestSumAt, listedAt};
+ghost use Rattle.definitions.specs.Model.{Model};
+ghost use Rattle.definitions.specs.Index.{IsLeast};
+ghost use Rattle.definitions.specs.HeldModel.{lentEntry, Holds};
+ghost use Rattle.heap.specs.WordLaws.{wordEnd, Word, told, PutLeaves, ShiftLeaves};
+ghost use Rattle.heap.specs.Clear.{restLen, PutRestLeaves, MakeRoomNeeds, MakeRoomLeaves, CutNeeds, CutLeaves};
+ghost use Rattle.heap.specs.Bisect.{Between};
+ghost use Rattle.heap.specs.RowBest.{sumAt, StretchFits, HasIndex, drawn};
+ghost use Rattle.heap.specs.Laid.{In};
+ghost use Rattle.heap.specs.Search.{test, Asked, answer, FirstYesNeeds, Climbs, SearchNeeds, TurnLeaves, EndOfLeaves, WinsBeside, SearchLeaves};
+ghost use Rattle.heap.specs.LeastColumn.{LeastLeaves};
+ghost use Rattle.heap.specs.HeapCalls.{ActivateNeeds, ActivateLeaves, PutFirstLeaves, PutWonNeeds, PutWonLeaves, ExtractMinLeaves};
+use bounds::Network;
+use buffers::fill;
+use definitions::Extraction;
+use preparation::HeapWords;
+
+// An interval as the words hold it: its columns, and the lowest one of least sum with that sum.
+pub struct Interval {
+    pub parent: u32,
+    pub first: u32,
+    pub last: u32,
+    pub best_column: u32,
+    pub best_sum: u32,
+}
+
+// What stands where in the words.
+pub struct MongeHeap;
+
+impl MongeHeap {
+    // How many words the heap of the widest block takes.
+    const WORDS: usize = HeapWords::HEAD + HeapWords::INTERVAL * Network::ROW_PLACES;
+
+    // The lent words become those of fresh heaps, wherever a heap begins in them: no row is activated, and no interval is kept.
+    pub fn make_fresh(heaps: &mut [u32])
+        ensures { λ _. ⌜ now (heaps .exit) ≡ replicate (length (now (heaps .entry))) 0 ⌝ }
+    {
+        fill(heaps, 0);
+    }
+
+    // The fresh heap of the widest block.
+    pub fn fresh() -> [u32; MongeHeap::WORDS]
+        ensures { λ r. ⌜ r ≡ replicate (heapWords rowPlaces) 0 ⌝ }
+    {
+        let mut heap = [0u32; MongeHeap::WORDS];
+        MongeHeap::make_fresh(&mut heap);
+        heap
+    }
+
+    // How many intervals are kept.
+    pub fn count(heap: &[u32]) -> usize
+        requires { ⌜ headWords ≤ length (now heap) ⌝ }
+        ensures { λ r. ⌜ Word (countOf (now (heap .entry))) r ⌝ }
+    {
+        heap[HeapWords::COUNT] as usize
+    }
+
+    // 1 if a row is activated, else 0.
+    fn mark(heap: &[u32]) -> usize
+        requires { ⌜ headWords ≤ length (now heap) ⌝ }
+        ensures { λ r. ⌜ Word (markOf (now (heap .entry))) r ⌝ }
+    {
+        heap[HeapWords::MARK] as usize
+    }
+
+    // The parent of the interval at place k.
+    fn parent(heap: &[u32], k: usize) -> usize
+        requires { ⌜ heapWords (k + 1) ≤ length (now heap) ⌝ }
+        ensures { λ r. ⌜ Word (parentAt (now (heap .entry)) k) r ⌝ }
+    {
+        heap[HeapWords::HEAD + HeapWords::INTERVAL * k + HeapWords::PARENT] as usize
+    }
+
+    // Its first column.
+    fn first(heap: &[u32], k: usize) -> usize
+        requires { ⌜ heapWords (k + 1) ≤ length (now heap) ⌝ }
+        ensures { λ r. ⌜ Word (firstAt (now (heap .entry)) k) r ⌝ }
+    {
+        heap[HeapWords::HEAD + HeapWords::INTERVAL * k + HeapWords::FIRST] as usize
+    }
+
+    // Its last column.
+    fn last(heap: &[u32], k: usize) -> usize
+        requires { ⌜ heapWords (k + 1) ≤ length (now heap) ⌝ }
+        ensures { λ r. ⌜ Word (lastAt (now (heap .entry)) k) r ⌝ }
+    {
+        heap[HeapWords::HEAD + HeapWords::INTERVAL * k + HeapWords::LAST] as usize
+    }
+
+    // Its best column.
+    fn best_column(heap: &[u32], k: usize) -> usize
+        requires { ⌜ heapWords (k + 1) ≤ length (now heap) ⌝ }
+        ensures { λ r. ⌜ Word (bestColumnAt (now (heap .entry)) k) r ⌝ }
+    {
+        heap[HeapWords::HEAD + HeapWords::INTERVAL * k + HeapWords::BEST_COLUMN] as usize
+    }
+
+    // The sum of that column.
+    fn best_sum(heap: &[u32], k: usize) -> u32
+        requires { ⌜ heapWords (k + 1) ≤ length (now heap) ⌝ }
+        ensures { λ r. ⌜ Word (bestSumAt (now (heap .entry)) k) r ⌝ }
+    {
+        heap[HeapWords::HEAD + HeapWords::INTERVAL * k + HeapWords::BEST_SUM]
+    }
+
+    // All of it.
+    pub fn interval(heap: &[u32], k: usize) -> Interval
+        requires { ⌜ heapWords (k + 1) ≤ length (now heap) ⌝ }
+        ensures { λ r. ⌜ told r ≡ listedAt (now (heap .entry)) k ⌝ }
+    {
+        let at = HeapWords::HEAD + HeapWords::INTERVAL * k;
+        Interval {
+            parent: heap[at + HeapWords::PARENT],
+            first: heap[at + HeapWords::FIRST],
+            last: heap[at + HeapWords::LAST],
+            best_column: heap[at + HeapWords::BEST_COLUMN],
+            best_sum: heap[at + HeapWords::BEST_SUM],
+        }
+    }
+}
+
+// ---- sums
+
+// The sum of a column through a row.
+fn sum_at(
+    rows: &[[u32; Network::ROW_PLACES]],
+    col0: usize,
+    labels: &[u32],
+    row: usize,
+    column: usize,
+) -> u32
+    requires { ⌜ (row < length (now rows)) × (row < length (now labels)) × (col0 + column < rowPlaces) × (sumAt (now rows) col0 (now labels) row column < wordEnd) ⌝ }
+    ensures { λ r. ⌜ r ≡ sumAt (now (rows .entry)) col0 (now (labels .entry)) row column ⌝ }
+{
+    labels[row] + rows[row][col0 + column]
+}
+
+// Of two neighbouring columns of a row the one of lesser length, the first if they are equal.
+fn lesser_of_two(
+    rows: &[[u32; Network::ROW_PLACES]],
+    col0: usize,
+    row: usize,
+    first: usize,
+) -> usize
+    requires { ⌜ (row < length (now rows)) × (col0 + (first + 2) ≤ rowPlaces) ⌝ }
+    ensures { λ r. ⌜ IsLeast (lentEntry (now (rows .entry)) col0 row) first (first + 2) r ⌝ }
+{
+    let next = first + 1;
+    if rows[row][col0 + next] < rows[row][col0 + first] {
+        return next;
+    }
+    first
+}
+
+// The lowest column of least length of a row, of those from `first` up to `end`, asked of the row's index. The index holds no single column: a stretch of two is
+// the lesser of its two columns, and to ask would take longer than to compare them.
+fn best_in(
+    rows: &[[u32; Network::ROW_PLACES]],
+    index: &[[u8; Network::INDEX_PLACES]],
+    col0: usize,
+    cols: usize,
+    row: usize,
+    first: usize,
+    end: usize,
+) -> usize
+    requires { ⌜ (row < length (now rows)) × (first < end) × (end ≤ cols) × HasIndex (now index) (now rows) col0 cols ⌝ }
+    ensures { λ r. ⌜ IsLeast (lentEntry (now (rows .entry)) col0 row) first end r ⌝ }
+{
+    if end - first < 2 {
+        return first;
+    }
+    if end - first == 2 {
+        return lesser_of_two(rows, col0, row, first);
+    }
+    index::least_column(&rows[row], &index[row], col0, cols, first, end)
+}
+
+// ---- writing
+
+// The interval is written at place k.
+fn put(heap: &mut [u32], k: usize, interval: Interval)
+    requires { ⌜ heapWords (k + 1) ≤ length (now heap) ⌝ }
+    ensures { λ _. ⌜ PutLeaves (now (heap .entry)) (now (heap .exit)) k (told interval) ⌝ }
+{
+    let at = HeapWords::HEAD + HeapWords::INTERVAL * k;
+    heap[at + HeapWords::PARENT] = interval.parent;
+    heap[at + HeapWords::FIRST] = interval.first;
+    heap[at + HeapWords::LAST] = interval.last;
+    heap[at + HeapWords::BEST_COLUMN] = interval.best_column;
+    heap[at + HeapWords::BEST_SUM] = interval.best_sum;
+}
+
+// Place k gets the columns from `first` up to `end` with this parent. They have this parent only, so their best is found in its row.
+fn put_columns(
+    heap: &mut [u32],
+    rows: &[[u32; Network::ROW_PLACES]],
+    index: &[[u8; Network::INDEX_PLACES]],
+    col0: usize,
+    cols: usize,
+    labels: &[u32],
+    k: usize,
+    parent: usize,
+    first: usize,
+    end: usize,
+)
+    requires fits { ⌜ (heapWords (k + 1) ≤ length (now heap)) × (first < end) × StretchFits (now rows) col0 (now labels) parent first end ⌝ }
+    requires indexed { ⌜ (end ≤ cols) × HasIndex (now index) (now rows) col0 cols ⌝ }
+    ensures { λ _. ⌜ PutLeaves (now (heap .entry)) (now (heap .exit)) k (drawn (now (rows .entry)) col0 (now (labels .entry)) parent first end) ⌝ }
+{
+    let column = best_in(rows, index, col0, cols, parent, first, end);
+    let sum = sum_at(rows, col0, labels, parent, column);
+    let columns = Interval {
+        parent: parent as u32,
+        first: first as u32,
+        last: (end - 1) as u32,
+        best_column: column as u32,
+        best_sum: sum,
+    };
+    put(heap, k, columns);
+}
+
+// The interval at place `from` also stands at place `to`.
+fn move_interval(heap: &mut [u32], from: usize, to: usize)
+    requires { ⌜ (heapWords (from + 1) ≤ length (now heap)) × (heapWords (to + 1) ≤ length (now heap)) ⌝ }
+    ensures { λ _. ⌜ PutLeaves (now (heap .entry)) (now (heap .exit)) to (listedAt (now (heap .entry)) from) ⌝ }
+{
+    let moved = MongeHeap::interval(heap, from);
+    put(heap, to, moved);
+}
+
+// The intervals from place `start` up to n go to place `to` and on; the far end goes first where they go up.
+fn shift(heap: &mut [u32], start: usize, n: usize, to: usize)
+    requires { ⌜ (heapWords n ≤ length (now heap)) × (heapWords (to + (n - start)) ≤ length (now heap)) ⌝ }
+    ensures { λ _. ⌜ ShiftLeaves (now (heap .entry)) (now (heap .exit)) start to n ⌝ }
+{
+    let mut a = start;
+    let mut b = n;
+    while a < b {
+        if start < to {
+            b -= 1;
+            move_interval(heap, b, to + (b - start));
+        } else {
+            move_interval(heap, a, to + (a - start));
+            a += 1;
+        }
+    }
+}
+
+// How many intervals the columns from `first` up to `end` are: one, or none where there are no columns.
+fn rest_len(first: usize, end: usize) -> usize
+    ensures { λ r. ⌜ (r ≡ restLen first end) × (r ≤ 1) ⌝ }
+{
+    if first < end {
+        return 1;
+    }
+    0
+}
+
+// Place k gets what is left of an interval, the columns from `first` up to `end`, if there are any.
+fn put_rest(
+    heap: &mut [u32],
+    rows: &[[u32; Network::ROW_PLACES]],
+    index: &[[u8; Network::INDEX_PLACES]],
+    col0: usize,
+    cols: usize,
+    labels: &[u32],
+    k: usize,
+    parent: usize,
+    first: usize,
+    end: usize,
+)
+    requires fits { ⌜ (heapWords (k + restLen first end) ≤ length (now heap)) × StretchFits (now rows) col0 (now labels) parent first end ⌝ }
+    requires indexed { ⌜ (end ≤ cols) × HasIndex (now index) (now rows) col0 cols ⌝ }
+    ensures { λ _. ⌜ PutRestLeaves (now (heap .entry)) (now (heap .exit)) (now (rows .entry)) col0 (now (labels .entry)) k parent first end ⌝ }
+{
+    if first < end {
+        put_columns(heap, rows, index, col0, cols, labels, k, parent, first, end);
+    }
+}
+
+// The intervals from lo up to hi give way to so many others, which are still to be written.
+fn make_room(heap: &mut [u32], lo: usize, hi: usize, number: usize)
+    requires { ⌜ MakeRoomNeeds (now heap) lo hi number ⌝ }
+    ensures { λ _. ⌜ MakeRoomLeaves (now (heap .entry)) (now (heap .exit)) lo hi number ⌝ }
+{
+    let n = MongeHeap::count(heap);
+    let to = lo + number;
+    shift(heap, hi, n, to);
+    heap[HeapWords::COUNT] = (to + (n - hi)) as u32;
+}
+
+// The interval at a place is cut at one of its columns: it gives way to what is left of it before and after that column. Returns how
+// many intervals that is. In here columns are bytes: none is above 23.
+fn cut(
+    heap: &mut [u32],
+    rows: &[[u32; Network::ROW_PLACES]],
+    index: &[[u8; Network::INDEX_PLACES]],
+    col0: usize,
+    cols: usize,
+    labels: &[u32],
+    place: usize,
+    column: usize,
+) -> usize
+    requires fits { ⌜ CutNeeds (now heap) (now rows) col0 (now labels) place column ⌝ }
+    requires indexed { ⌜ (lastAt (now heap) place < cols) × HasIndex (now index) (now rows) col0 cols ⌝ }
+    ensures { λ r. ⌜ CutLeaves (now (heap .entry)) (now (heap .exit)) (now (rows .entry)) col0 (now (labels .entry)) place column r ⌝ }
+{
+    let parent = MongeHeap::parent(heap, place);
+    let first = MongeHeap::first(heap, place) as u8;
+    let last = MongeHeap::last(heap, place) as u8;
+    let column = column as u8;
+    let next = column + 1;
+    let end = last + 1;
+    let before = rest_len(first as usize, column as usize);
+    let number = before + rest_len(next as usize, end as usize);
+    make_room(heap, place, place + 1, number);
+    put_rest(
+        heap,
+        rows,
+        index,
+        col0,
+        cols,
+        labels,
+        place,
+        parent,
+        first as usize,
+        column as usize,
+    );
+    put_rest(
+        heap,
+        rows,
+        index,
+        col0,
+        cols,
+        labels,
+        place + before,
+        parent,
+        next as usize,
+        end as usize,
+    );
+    number
+}
+
+// ---- searching
+
+// The columns that a new row wins lie together. From intervals with a lower parent it wins from some column on, from those with a
+// higher parent up to some column: each end is found by halving, first the intervals and then the columns of one. (Document 001 walks
+// outward from interval to interval instead.)
+
+// Whether the row wins a column of interval k, or does not, as is wanted.
+fn tested(
+    heap: &[u32],
+    rows: &[[u32; Network::ROW_PLACES]],
+    col0: usize,
+    labels: &[u32],
+    row: usize,
+    want: bool,
+    k: usize,
+    column: usize,
+) -> bool
+    requires { ⌜ SearchNeeds (now heap) (now rows) col0 (now labels) row × (k < countOf (now heap)) × In (now heap) k column ⌝ }
+    ensures { λ t. ⌜ t ≡ test (now (heap .entry)) (now (rows .entry)) col0 (now (labels .entry)) row want k column ⌝ }
+{
+    let parent = MongeHeap::parent(heap, k);
+    let won = sum_at(rows, col0, labels, row, column) < sum_at(rows, col0, labels, parent, column);
+    if want {
+        return won;
+    }
+    !won
+}
+
+// What is asked of a number, for a row: along the numbers that are asked the answer is no at first, and then yes.
+enum Question {
+    // whether the parent of the interval at that place comes after the row
+    Parent,
+    // whether the test holds at the last column of the interval at that place
+    Last(bool),
+    // whether it holds at that column of interval k
+    Column(bool, usize),
+}
+
+// The answer for the number x.
+fn answered(
+    heap: &[u32],
+    rows: &[[u32; Network::ROW_PLACES]],
+    col0: usize,
+    labels: &[u32],
+    row: usize,
+    question: Question,
+    x: usize,
+) -> bool
+    requires { ⌜ SearchNeeds (now heap) (now rows) col0 (now labels) row × Asked (now heap) question x ⌝ }
+    ensures { λ t. ⌜ t ≡ answer (now (heap .entry)) (now (rows .entry)) col0 (now (labels .entry)) row question x ⌝ }
+{
+    match question {
+        Question::Parent => row < MongeHeap::parent(heap, x),
+        Question::Last(want) => {
+            let last = MongeHeap::last(heap, x);
+            tested(heap, rows, col0, labels, row, want, x, last)
+        },
+        Question::Column(want, k) => tested(heap, rows, col0, labels, row, want, k, x),
+    }
+}
+
+// The first number from `from` up to `to` at which the answer is yes, by halving.
+fn first_yes(
+    heap: &[u32],
+    rows: &[[u32; Network::ROW_PLACES]],
+    col0: usize,
+    labels: &[u32],
+    row: usize,
+    question: Question,
+    from: usize,
+    to: usize,
+) -> usize
+    requires { ⌜ FirstYesNeeds (now heap) (now rows) col0 (now labels) row question from to ⌝ }
+    ensures { λ r. ⌜ Between (answer (now (heap .entry)) (now (rows .entry)) col0 (now (labels .entry)) row question) from to r r ⌝ }
+{
+    let mut a = from;
+    let mut b = to;
+    while a < b {
+        let m = (a + b) / 2;
+        if answered(heap, rows, col0, labels, row, question, m) {
+            b = m;
+        } else {
+            a = m + 1;
+        }
+    }
+    a
+}
+
+// A column, and the place of the interval that it lies in.
+struct Edge {
+    place: usize,
+    column: usize,
+}
+
+// Where the test begins to hold, of the intervals from `from` up to `to`: past all columns if it nowhere does and they are the last.
+fn turn(
+    heap: &[u32],
+    rows: &[[u32; Network::ROW_PLACES]],
+    col0: usize,
+    labels: &[u32],
+    row: usize,
+    want: bool,
+    from: usize,
+    to: usize,
+) -> Edge
+    requires ready { ⌜ SearchNeeds (now heap) (now rows) col0 (now labels) row × (from ≤ to) × (to ≤ countOf (now heap)) × (to ≤ wordEnd) ⌝ }
+    requires climbs { ⌜ Climbs (now heap) (test (now heap) (now rows) col0 (now labels) row want) from to ⌝ }
+    ensures { λ r. ⌜ TurnLeaves (now (heap .entry)) (test (now (heap .entry)) (now (rows .entry)) col0 (now (labels .entry)) row want) from to (r .place) (r .column) ⌝ }
+{
+    let place = first_yes(
+        heap,
+        rows,
+        col0,
+        labels,
+        row,
+        Question::Last(want),
+        from,
+        to,
+    );
+    if place < to {
+        let first = MongeHeap::first(heap, place);
+        let last = MongeHeap::last(heap, place);
+        let asked = Question::Column(want, place);
+        let column = first_yes(heap, rows, col0, labels, row, asked, first, last);
+        return Edge { place, column };
+    }
+    if place < MongeHeap::count(heap) {
+        let column = MongeHeap::first(heap, place);
+        return Edge { place, column };
+    }
+    Edge {
+        place,
+        column: Network::ROW_PLACES,
+    }
+}
+
+// One past the last column before an edge, and one past its interval.
+fn end_of(heap: &[u32], edge: Edge) -> Edge
+    requires { ⌜ (heapWords (countOf (now heap)) ≤ length (now heap)) × (edge .place ≤ countOf (now heap)) ⌝ }
+    ensures { λ r. ⌜ EndOfLeaves (now (heap .entry)) (edge .place) (edge .column) (r .place) (r .column) ⌝ }
+{
+    let place = edge.place;
+    let column = edge.column;
+    if place < MongeHeap::count(heap) {
+        if MongeHeap::first(heap, place) < column {
+            return Edge {
+                place: place + 1,
+                column,
+            };
+        }
+    }
+    if place > 0 {
+        let end = MongeHeap::last(heap, place - 1) + 1;
+        return Edge { place, column: end };
+    }
+    Edge { place, column }
+}
+
+// The intervals of which a row wins columns, from lo up to hi, and the columns that it wins; none of either where it wins nothing.
+struct Won {
+    lo: usize,
+    hi: usize,
+    first: usize,
+    end: usize,
+}
+
+// Whether the row wins the last column of the interval before place p or the first one of the interval at it. If the intervals before p
+// have lower parents and those from p on higher ones, it wins no column at all where it wins neither; most rows that come late do not.
+fn wins_beside(
+    heap: &[u32],
+    rows: &[[u32; Network::ROW_PLACES]],
+    col0: usize,
+    labels: &[u32],
+    row: usize,
+    p: usize,
+) -> bool
+    requires { ⌜ SearchNeeds (now heap) (now rows) col0 (now labels) row × (p ≤ countOf (now heap)) ⌝ }
+    ensures { λ t. ⌜ WinsBeside (now (heap .entry)) (now (rows .entry)) col0 (now (labels .entry)) row p t ⌝ }
+{
+    if p > 0 {
+        let last = MongeHeap::last(heap, p - 1);
+        if tested(heap, rows, col0, labels, row, true, p - 1, last) {
+            return true;
+        }
+    }
+    if p < MongeHeap::count(heap) {
+        let first = MongeHeap::first(heap, p);
+        return tested(heap, rows, col0, labels, row, true, p, first);
+    }
+    false
+}
+
+// What a new row wins.
+fn search(
+    heap: &[u32],
+    rows: &[[u32; Network::ROW_PLACES]],
+    col0: usize,
+    labels: &[u32],
+    row: usize,
+) -> Won
+    requires { ⌜ SearchNeeds (now heap) (now rows) col0 (now labels) row ⌝ }
+    ensures { λ r. ⌜ SearchLeaves (now (heap .entry)) (now (rows .entry)) col0 (now (labels .entry)) row (r .lo) (r .hi) (r .first) (r .end) ⌝ }
+{
+    let n = MongeHeap::count(heap);
+    let p = first_yes(heap, rows, col0, labels, row, Question::Parent, 0, n);
+    if !wins_beside(heap, rows, col0, labels, row, p) {
+        return Won {
+            lo: p,
+            hi: p,
+            first: 0,
+            end: 0,
+        };
+    }
+    let left = turn(heap, rows, col0, labels, row, true, 0, p);
+    let right = end_of(heap, turn(heap, rows, col0, labels, row, false, p, n));
+    Won {
+        lo: left.place,
+        hi: right.place,
+        first: left.column,
+        end: right.column,
+    }
+}
+
+// ---- the least sum
+
+// A column with its interval's place before it and its sum after it; or there is no interval.
+pub enum Lowest {
+    At(usize, usize, u32),
+    Nothing,
+}
+
+// The lowest column of least sum: the least of the bests, of the first interval that has it.
+pub fn least(heap: &[u32]) -> Lowest
+    requires { ⌜ heapWords (countOf (now heap)) ≤ length (now heap) ⌝ }
+    ensures { λ r. ⌜ LeastLeaves (now (heap .entry)) r ⌝ }
+{
+    let n = MongeHeap::count(heap);
+    if n == 0 {
+        return Lowest::Nothing;
+    }
+    let mut place = 0;
+    let mut sum = MongeHeap::best_sum(heap, 0);
+    let mut k = 1;
+    while k < n {
+        let next = MongeHeap::best_sum(heap, k);
+        if next < sum {
+            place = k;
+            sum = next;
+        }
+        k += 1;
+    }
+    Lowest::At(place, MongeHeap::best_column(heap, place), sum)
+}
+
+// ---- the calls
+
+// How many intervals an activation inserted and removed, and the least sum of the columns that the row wins; 0 where it wins none.
+pub struct Activated {
+    pub inserted: u32,
+    pub removed: u32,
+    pub sum: u32,
+}
+
+// The first row gets one interval with all columns.
+fn put_first(
+    heap: &mut [u32],
+    rows: &[[u32; Network::ROW_PLACES]],
+    index: &[[u8; Network::INDEX_PLACES]],
+    col0: usize,
+    cols: usize,
+    labels: &[u32],
+    row: usize,
+)
+    requires fits { ⌜ (heapWords 1 ≤ length (now heap)) × (0 < cols) × StretchFits (now rows) col0 (now labels) row 0 cols ⌝ }
+    requires indexed { ⌜ HasIndex (now index) (now rows) col0 cols ⌝ }
+    ensures { λ _. ⌜ PutFirstLeaves (now (heap .entry)) (now (heap .exit)) (now (rows .entry)) col0 (now (labels .entry)) row cols ⌝ }
+{
+    heap[HeapWords::COUNT] = 1;
+    heap[HeapWords::MARK] = 1;
+    put_columns(heap, rows, index, col0, cols, labels, 0, row, 0, cols);
+}
+
+// The row gets the columns that it wins: the intervals that meet them give way to what is left of the first and of the last of these,
+// with the row's own interval between the two.
+fn put_won(
+    heap: &mut [u32],
+    rows: &[[u32; Network::ROW_PLACES]],
+    index: &[[u8; Network::INDEX_PLACES]],
+    col0: usize,
+    cols: usize,
+    labels: &[u32],
+    row: usize,
+    won: Won,
+) -> Activated
+    requires fits { ⌜ PutWonNeeds (now heap) (now rows) col0 (now labels) row (won .lo) (won .hi) (won .first) (won .end) ⌝ }
+    requires indexed { ⌜ (lastAt (now heap) (won .hi - 1) < cols) × HasIndex (now index) (now rows) col0 cols ⌝ }
+    ensures { λ r. ⌜ PutWonLeaves (now (heap .entry)) (now (heap .exit)) (now (rows .entry)) col0 (now (labels .entry)) row (won .lo) (won .hi) (won .first) (won .end) r ⌝ }
+{
+    let lo = won.lo;
+    let hi = won.hi;
+    let left = MongeHeap::parent(heap, lo);
+    let from = MongeHeap::first(heap, lo);
+    let right = MongeHeap::parent(heap, hi - 1);
+    let to = MongeHeap::last(heap, hi - 1) + 1;
+    let place = lo + rest_len(from, won.first);
+    let number = place - lo + 1 + rest_len(won.end, to);
+    make_room(heap, lo, hi, number);
+    put_rest(
+        heap,
+        rows,
+        index,
+        col0,
+        cols,
+        labels,
+        lo,
+        left,
+        from,
+        won.first,
+    );
+    put_rest(
+        heap,
+        rows,
+        index,
+        col0,
+        cols,
+        labels,
+        place + 1,
+        right,
+        won.end,
+        to,
+    );
+    put_columns(
+        heap,
+        rows,
+        index,
+        col0,
+        cols,
+        labels,
+        place,
+        row,
+        won.first,
+        won.end,
+    );
+    let inserted = number as u32;
+    let removed = (hi - lo) as u32;
+    let sum = MongeHeap::best_sum(heap, place);
+    Activated {
+        inserted,
+        removed,
+        sum,
+    }
+}
+
+// The row is activated with the label at its place. It gets the columns that it wins, all of them if it is the first.
+pub fn activate(
+    heap: &mut [u32],
+    rows: &[[u32; Network::ROW_PLACES]],
+    index: &[[u8; Network::INDEX_PLACES]],
+    col0: usize,
+    cols: usize,
+    labels: &[u32],
+    row: usize,
+) -> Activated
+    requires given { ⌜ ActivateNeeds (now heap) (now rows) col0 cols (now labels) row ⌝ }
+    requires indexed { ⌜ HasIndex (now index) (now rows) col0 cols ⌝ }
+    ensures held { λ r. ⌜ ActivateLeaves (now (heap .entry)) (now (heap .exit)) (now (rows .entry)) col0 cols (now (labels .entry)) row r ⌝ }
+    ensures long { λ _. ⌜ length (now (heap .exit)) ≡ length (now (heap .entry)) ⌝ }
+{
+    if MongeHeap::mark(heap) == 0 {
+        put_first(heap, rows, index, col0, cols, labels, row);
+        return Activated {
+            inserted: 1,
+            removed: 0,
+            sum: MongeHeap::best_sum(heap, 0),
+        };
+    }
+    let won = search(heap, rows, col0, labels, row);
+    if won.lo < won.hi {
+        return put_won(heap, rows, index, col0, cols, labels, row, won);
+    }
+    Activated {
+        inserted: 0,
+        removed: 0,
+        sum: 0,
+    }
+}
+
+// What an extraction answers, how many intervals it inserted, and the parent of the column that it hands out, 0 if it hands out none. With a column
+// one interval is removed.
+pub struct Extracted {
+    pub answer: Extraction,
+    pub inserted: u32,
+    pub parent: u32,
+}
+
+// The lowest column of least sum among those that are left is extracted.
+pub fn extract_min(
+    heap: &mut [u32],
+    rows: &[[u32; Network::ROW_PLACES]],
+    index: &[[u8; Network::INDEX_PLACES]],
+    col0: usize,
+    cols: usize,
+    labels: &[u32],
+) -> Extracted
+    requires holds { ⌜ ((m : Model) × Holds (now heap) (now rows) col0 cols (now labels) m) ⌝ }
+    requires indexed { ⌜ HasIndex (now index) (now rows) col0 cols ⌝ }
+    ensures held { λ r. ⌜ ExtractMinLeaves (now (heap .entry)) (now (heap .exit)) (now (rows .entry)) col0 (now (labels .entry)) r ⌝ }
+    ensures long { λ _. ⌜ length (now (heap .exit)) ≡ length (now (heap .entry)) ⌝ }
+{
+    let found = least(heap);
+    let Lowest::At(place, column, sum) = found else {
+        let answer = Extraction::Nothing;
+        return Extracted {
+            answer,
+            inserted: 0,
+            parent: 0,
+        };
+    };
+    let parent = MongeHeap::parent(heap, place) as u32;
+    let inserted = cut(heap, rows, index, col0, cols, labels, place, column) as u32;
+    let answer = Extraction::Column(column as u32, sum);
+    Extracted {
+        answer,
+        inserted,
+        parent,
+    }
+}
