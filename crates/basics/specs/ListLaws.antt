@@ -1,5 +1,5 @@
 -- Laws of lists.
---   all-same all-next all-fails   tests that agree; one number more; one number that fails
+--   all-same all-next all-fails all-not   tests that agree; one number more; one number that fails
 --   Every Any                     a property of all members, of some member
 --   total-..                      sums
 --   Different counted at-most         different numbers, and how many there are below a bound
@@ -9,7 +9,7 @@ use mathlib.Core.Bool.{Bool, true, false, not, _||_, or-assoc, or-false}
 use mathlib.Core.List.{List, [], _∷_, _++_, map}
 use mathlib.Core.Logic.{_⊎_, inl, inr, ⊎-elim, _≢_}
 use Prim.Native.Nat.{ℕ, zero, suc, _+_, _≤_, _<_}
-use native.Mathlib.Nat.{le-refl}
+use native.Mathlib.Nat.{le-refl, eq-or-lt-of-le}
 use native.Mathlib.Numerals.{add-one}
 use native.Mathlib.Omega.{arith}
 use borrow.Author.Tests.{eq-eqb, ne-eqb, not-true}
@@ -17,7 +17,7 @@ use lib.Dec.{eqb}
 use lib.ListN.{getD, length, set, length-append, length-replicate}
 use Rattle.definitions.specs.Lists.{all, count, Every, mem, different, total, padded}
 use Rattle.definitions.specs.Laws.Members.{all-at}
-use Rattle.logic.specs.Tests.{clash, and-left, and-right, or-left, or-right, Truth, holds, fails, truth, Equal, equal, differ, equality}
+use Rattle.logic.specs.Tests.{clash, and-both, and-left, and-right, or-left, or-right, Truth, holds, fails, truth, Equal, equal, differ, equality}
 
 -- ---- a computed test
 
@@ -37,6 +37,17 @@ all-fails p n i l h = go (truth (all p n))
     go : Truth (all p n) → all p n ≡ false
     go (holds t) = absurd (clash (all-at p n t i l) h)
     go (fails t) = t
+
+-- a number that fails
+pub all-not : (p : ℕ → Bool) (n : ℕ) → all p n ≡ false → (i : ℕ) × (i < n) × (p i ≡ false)
+unfolding all
+all-not p zero h = absurd (clash refl h)
+all-not p (suc n) h = go (truth (p n)) (truth (all p n)) (all-not p n)
+  where
+    go : Truth (p n) → Truth (all p n) → (all p n ≡ false → (i : ℕ) × (i < n) × (p i ≡ false)) → (i : ℕ) × (i < suc n) × (p i ≡ false)
+    go (fails t) _ ih = (n, omega arith, t)
+    go (holds t) (holds u) ih = absurd (clash (and-both (all p n) (p n) u t) h)
+    go (holds t) (fails u) ih = let x = ih u in (x .0, omega (arith, x .1), x .2)
 
 -- ---- a property of all members
 
@@ -187,12 +198,42 @@ count-le p (suc n) = go (truth (p n)) (count-le p n)
     go (fails t) h = simp t (omega arith)
 
 -- one number more
+pub count-none : (p : ℕ → Bool) (n : ℕ) → ((i : ℕ) → i < n → p i ≡ false) → count p n ≡ 0
+unfolding count
+count-none p zero h = refl
+count-none p (suc n) h = simp (h n (omega arith)) (omega (arith, count-none p n (λ i l. h i (omega arith))))
+
+pub count-all : (p : ℕ → Bool) (n : ℕ) → ((i : ℕ) → i < n → p i ≡ true) → count p n ≡ n
+unfolding count
+count-all p zero h = refl
+count-all p (suc n) h = simp (h n (omega arith)) (omega (arith, count-all p n (λ i l. h i (omega arith))))
+
+pub count-some : (p : ℕ → Bool) (n i : ℕ) → i < n → p i ≡ true → 0 < count p n
+unfolding count
+count-some p zero i l h = absurd (omega arith)
+count-some p (suc n) i l h = go (eq-or-lt-of-le l) (λ m. count-some p n i m h)
+  where
+    go : (suc i ≡ suc n) ⊎ (suc i < suc n) → (i < n → 0 < count p n) → 0 < count p (suc n)
+    go (inl q) ih = let z : n ≡ i = omega arith in rw z (simp h (omega arith))
+    go (inr m) ih = omega (arith, ih (omega arith))
+
+-- the test holds of each number if it holds of as many
+pub count-full : (p : ℕ → Bool) (n : ℕ) → n ≤ count p n → (i : ℕ) → i < n → p i ≡ true
+unfolding count
+count-full p zero h i l = absurd (omega arith)
+count-full p (suc n) h i l = go (truth (p n)) (eq-or-lt-of-le l) (λ m. count-full p n m i)
+  where
+    go : Truth (p n) → (suc i ≡ suc n) ⊎ (suc i < suc n) → (n ≤ count p n → i < n → p i ≡ true) → p i ≡ true
+    go (fails t) _ ih = absurd (omega (arith, simp t at h, count-le p n))
+    go (holds t) (inl q) ih = let z : i ≡ n = omega arith in rw z t
+    go (holds t) (inr m) ih = ih (omega (arith, simp t at h)) (omega arith)
+
 count-out : (p : ℕ → Bool) (x n : ℕ) → n ≤ x → count (λ y. eqb y x || p y) n ≡ count p n
 unfolding count
 count-out p x zero l = refl
 count-out p x (suc n) l = let q : n ≢ x = omega arith in simp (ne-eqb n x q) (rw (count-out p x n (omega arith)))
 
-count-in : (p : ℕ → Bool) (x n : ℕ) → p x ≡ false → x < n → count (λ y. eqb y x || p y) n ≡ suc (count p n)
+pub count-in : (p : ℕ → Bool) (x n : ℕ) → p x ≡ false → x < n → count (λ y. eqb y x || p y) n ≡ suc (count p n)
 unfolding count
 count-in p x zero h l = absurd (omega arith)
 count-in p x (suc n) h l = go (equality n x) (λ k. count-in p x n h k)

@@ -12,6 +12,9 @@ impl Network {
 
     pub const MAX_LENGTH: u32 = 999999;
 
+    // in place of a length, where no run exists inside the piece
+    pub const NO_PATH: u32 = 4294967295;
+
     pub const MAX_LABEL: u32 = (Network::MAX_VERTICES - 1) * Network::MAX_LENGTH;
 
     // for a vertex that is not reached, and for a row that is not activated

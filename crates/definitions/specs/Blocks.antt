@@ -108,7 +108,7 @@ noBlock = record { piece = 0; rows = []; cols = []; lengths = λ i k. 0 }
 unfoldable pub passes : Block → Bool
 passes b = isMonge (b .lengths) (length (b .rows)) (length (b .cols))
 
--- It passes exactly if the inequality holds of all its neighbouring rows and columns.
+-- It passes exactly if the inequality holds of every two of its rows and every two of its columns.
 pub passes-exactly : (b : Block) → passes b ≡ true ↔ Monge (b .lengths) (length (b .rows)) (length (b .cols))
 unfolding passes
 passes-exactly b = (isMonge-is (b .lengths) (length (b .rows)) (length (b .cols)), isMonge-from (b .lengths) (length (b .rows)) (length (b .cols)))

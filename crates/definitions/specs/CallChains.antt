@@ -12,6 +12,7 @@ use lib.ListN.{getD, length, drop, replicate}
 use Rattle.definitions.specs.declared.Called.{Called}
 use Rattle.definitions.specs.Limits.{maxSide, rowPlaces, answerSize, unreached}
 use Rattle.definitions.specs.Lists.{total, Every}
+use Rattle.definitions.specs.Monge.{closed}
 use Rattle.definitions.specs.Intervals.{Distinct, countNew}
 use Rattle.definitions.specs.Model.{Model, fresh, isActivated, intervals, withBest, Call, extracts, Answer, Stepped, step, allowance, ExtractsLeast, Trace, trace, AllExtractLeast, allowances}
 use Rattle.definitions.specs.Entries.{answerNumbers}
@@ -30,6 +31,10 @@ pub record SessionHolds (rows : List (List ℕ)) (cols : ℕ) (heap labels : Lis
 abbrev pub stepOf : List (List ℕ) → ℕ → Model → Call → Stepped
 stepOf rows cols m k = step (lentEntry rows 0) (length rows) cols m k
 
+-- how many columns are closed
+abbrev pub shutOf : List (List ℕ) → ℕ → ℕ
+shutOf rows cols = closed (lentEntry rows 0) (length rows) cols
+
 -- code, column and sum of what a call returns
 abbrev pub answerIn : Called → Answer
 answerIn r = record { code = r .code; column = r .column; sum = r .sum }
@@ -40,8 +45,8 @@ pub record Steps (rows : List (List ℕ)) (cols : ℕ) (m : Model) (k : Call) (h
   pub answer-is : answerIn r ≡ stepOf rows cols m k .answer
   pub inserted-is : r .inserted ≡ countNew (intervals (lentEntry rows 0) cols (stepOf rows cols m k .model)) (intervals (lentEntry rows 0) cols m)
   pub removed-is : r .removed ≡ countNew (intervals (lentEntry rows 0) cols m) (intervals (lentEntry rows 0) cols (stepOf rows cols m k .model))
-  -- three inserted at most by an activation, two by an extraction, none by a call that is refused or finds no interval
-  pub few : r .inserted ≤ allowance k (answerIn r)
+  -- three inserted at most by an activation, and one more for each closed column; two by an extraction; none by a call that is refused or finds no interval
+  pub few : r .inserted ≤ allowance (shutOf rows cols) k (answerIn r)
   -- kept before and inserted are together removed and kept after
   pub balanced : length (intervals (lentEntry rows 0) cols m) + r .inserted ≡ r .removed + length (kept heap)
   -- an extraction answers none exactly if no interval is left, else the least that is left
@@ -75,8 +80,8 @@ pub record Agrees (rows : List (List ℕ)) (cols : ℕ) (ks : List Call) (heap l
   pub removed-is : removed ≡ traceOf rows cols ks .removed
   -- inserted = removed + kept
   pub balanced : inserted ≡ removed + length (kept heap)
-  -- three inserted at most by each activation, two by each extraction, none by any other call
-  pub few : inserted ≤ allowances ks (traceOf rows cols ks .answers)
+  -- three inserted at most by each activation, and one more for each closed column; two by each extraction; none by any other call
+  pub few : inserted ≤ allowances (shutOf rows cols) ks (traceOf rows cols ks .answers)
   -- each extraction answers none exactly if no interval is left where its turn comes, else the least that is left
   pub least : AllExtractLeast (lentEntry rows 0) (length rows) cols fresh ks (traceOf rows cols ks .answers)
 
@@ -123,4 +128,4 @@ pub record Follows (rows : List (List ℕ)) (cols : ℕ) (xs : List Exchange) (s
   pub agrees : Agrees rows cols (callsMade xs) (s .heap) (s .labels) (insertedBy xs) (removedBy xs)
   pub floor-is : s .floor ≡ traceOf rows cols (callsMade xs) .model .floor
   pub answers-are : answersMade xs ≡ traceOf rows cols (callsMade xs) .answers
-  pub few : Every (λ x. x .called .inserted ≤ allowance (x .call) (answerIn (x .called))) xs
+  pub few : Every (λ x. x .called .inserted ≤ allowance (shutOf rows cols) (x .call) (answerIn (x .called))) xs

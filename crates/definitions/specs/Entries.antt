@@ -22,8 +22,9 @@ use Rattle.definitions.specs.declared.RouteAnswer.{RouteAnswer}
 use Rattle.definitions.specs.declared.SessionAnswer.{SessionAnswer}
 use Rattle.definitions.specs.declared.Least.{Least}
 use Rattle.definitions.specs.declared.Least.the-variants.{Nothing, Refused}
-use Rattle.definitions.specs.Limits.{maxLength, maxArcs, maxSide, maxCalls, sizePlaces, vertexPlaces, lengthPlaces, rowPlaces, labelPlaces, routePlaces, rectanglePlaces, indexRowPlaces, indexPlaces, callPlaces, answerPlaces, intervalPlaces, callSize, answerSize, columnBytes, lineFields, linePlaces, lastPlace, noTarget, unusedInterval}
+use Rattle.definitions.specs.Limits.{maxArcs, maxSide, maxCalls, sizePlaces, vertexPlaces, lengthPlaces, rowPlaces, labelPlaces, routePlaces, rectanglePlaces, indexRowPlaces, indexPlaces, callPlaces, answerPlaces, intervalPlaces, callSize, answerSize, columnBytes, lineFields, linePlaces, lastPlace, noTarget, unusedInterval}
 use Rattle.definitions.specs.Lists.{all, upFrom, padded, within, firstCause}
+use Rattle.definitions.specs.Metres.{isLength}
 use Rattle.definitions.specs.Network.{Rectangle, RouteArc}
 use Rattle.definitions.specs.Monge.{isMonge}
 use Rattle.definitions.specs.Blocks.{blocks}
@@ -65,7 +66,7 @@ judgeSides rows cols = cond (within maxSide rows && within maxSide cols) 0 4
 unfoldable pub judgeRectangle : ℕ → ℕ → Rectangle → ℕ
 judgeRectangle rows cols e =
     firstCause (judgeSides rows cols
-    ∷ cond (all (λ i. all (λ k. leb (e i k) maxLength) cols) rows) 0 6
+    ∷ cond (all (λ i. all (λ k. isLength (e i k)) cols) rows) 0 6
     ∷ cond (isMonge e rows cols) 0 7
     ∷ [])
 

@@ -1,6 +1,7 @@
 -- Document 01, "Text layout": fields of six columns, which are read, and of nine, which are written.
---   FieldAnswer fieldOf fieldAt lengthAt    six bytes: 0 and a number, or no field (3)
---   fieldAnswer                             the number and the value of each case of the program's answer
+--   FieldAnswer fieldOf lengthOf            six bytes: 0 and a number, or no field (3); a length may be no path: document 02, request 7
+--   sixAt fieldAt lengthAt                  the same at a place of a text
+--   fieldAnswer lengthAnswer                the number and the value of each case of the program's answers
 --   decimal rightJustified nineColumns      a number in digits, in a field that is written
 use mathlib.Core.Bool.{Bool, true, false, cond, not, _&&_, _||_}
 use mathlib.Core.List.{List, [], _∷_, _++_}
@@ -9,7 +10,9 @@ use lib.Dec.{eqb, leb, ltb}
 use lib.ListN.{length, take, drop, replicate}
 use Rattle.definitions.specs.declared.Field.{Field}
 use Rattle.definitions.specs.declared.Field.the-variants.{Number, Malformed}
-use Rattle.definitions.specs.Limits.{columnBytes}
+use Rattle.definitions.specs.declared.Length.{Length}
+use Rattle.definitions.specs.declared.Length.the-variants.{Number as ALength, NoPath, Malformed as NoLength}
+use Rattle.definitions.specs.Limits.{columnBytes, noPath}
 use Rattle.definitions.specs.Lists.{every}
 
 -- the bytes of a blank, of a line's end, of `0` and `9`, and of `-`
@@ -69,18 +72,34 @@ fieldOf bytes =
     let digits = skipBlanks bytes in
     cond (isNumeral digits) (aField (numeralValue 0 digits)) noField
 
--- the field at a place of the text; where fewer than six bytes are left there is none
-unfoldable pub fieldAt : List ℕ → ℕ → FieldAnswer
-fieldAt text at = cond (leb (at + fieldBytes) (length text)) (fieldOf (take fieldBytes (drop at text))) noField
+-- `-` alone
+unfoldable pub isDash : List ℕ → Bool
+isDash [] = false
+isDash (b ∷ bs) = eqb b dash && eqb (length bs) 0
 
--- a length field: a number, like any other field
-unfoldable pub lengthAt : List ℕ → ℕ → FieldAnswer
-lengthAt text at = fieldAt text at
+-- (02, request 7) A length field: `-` right-justified, which is no path; else a number, like any other field.
+unfoldable pub lengthOf : List ℕ → FieldAnswer
+lengthOf bytes = cond (isDash (skipBlanks bytes)) (aField noPath) (fieldOf bytes)
 
--- the number and the value of each case of the program's answer
+-- six bytes at a place of the text, read as one or the other; where fewer are left there is no field
+unfoldable pub sixAt : (List ℕ → FieldAnswer) → List ℕ → ℕ → FieldAnswer
+sixAt says text at = cond (leb (at + fieldBytes) (length text)) (says (take fieldBytes (drop at text))) noField
+
+abbrev pub fieldAt : List ℕ → ℕ → FieldAnswer
+fieldAt = sixAt fieldOf
+
+abbrev pub lengthAt : List ℕ → ℕ → FieldAnswer
+lengthAt = sixAt lengthOf
+
+-- the number and the value of each case of the program's answers
 abbrev pub fieldAnswer : Field → FieldAnswer
 fieldAnswer (Number x) = aField x
 fieldAnswer Malformed = noField
+
+abbrev pub lengthAnswer : Length → FieldAnswer
+lengthAnswer (ALength x) = aField x
+lengthAnswer NoPath = aField noPath
+lengthAnswer NoLength = noField
 
 -- ---- nine columns
 

@@ -1,9 +1,10 @@
 -- The words of an interval heap: how many there are, which is which, and the intervals that they hold. Whoever reads, writes or counts them rests on
 -- this file.
---   countWord markWord headWords                       what stands before the intervals
+--   countWord reachedWord headWords                    what stands before the intervals
 --   parentWord .. bestSumWord intervalWords            the words of one interval
+--   markWord placeWords                                behind those of interval k the mark of column k
 --   intervalStart heapWords                            where interval k begins; how many words a heap takes
---   countOf markOf parentAt .. bestSumAt               what the words say
+--   countOf reachedOf parentAt .. bestSumAt markAt     what the words say
 --   intervalAt span kept                               the intervals that they hold
 --   bestAt listedAt listedIn                           the same with their bests
 use mathlib.Core.List.{List, [], _∷_, map}
@@ -17,12 +18,12 @@ use Rattle.definitions.specs.Model.{Listed}
 
 -- ---- which is which
 
--- how many intervals there are, and whether a row is activated
+-- how many intervals there are, and how many columns are reached: some activated row has a path there (02, request 7)
 abbrev pub countWord : ℕ
 countWord = 0
 
-abbrev pub markWord : ℕ
-markWord = 1
+abbrev pub reachedWord : ℕ
+reachedWord = 1
 
 abbrev pub headWords : ℕ
 headWords = 2
@@ -46,22 +47,28 @@ bestSumWord = 4
 abbrev pub intervalWords : ℕ
 intervalWords = intervalSize
 
+-- Behind them stands whether a column is reached: the mark of column k behind interval k, and it stays there when intervals move.
+abbrev pub markWord : ℕ
+markWord = intervalWords
+
+abbrev pub placeWords : ℕ
+placeWords = intervalWords + 1
+
 -- the intervals are packed from the front
 abbrev pub intervalStart : ℕ → ℕ
-intervalStart k = headWords + intervalWords * k
+intervalStart k = headWords + placeWords * k
 
 -- the heap of a block of so many columns: no two intervals share a column, so there are at most as many
 abbrev pub heapWords : ℕ → ℕ
-heapWords cols = headWords + intervalWords * cols
+heapWords cols = headWords + placeWords * cols
 
 -- ---- what they say
 
 unfoldable pub countOf : List ℕ → ℕ
 countOf w = getD w countWord 0
 
--- 1 once a row is activated, else 0
-unfoldable pub markOf : List ℕ → ℕ
-markOf w = getD w markWord 0
+unfoldable pub reachedOf : List ℕ → ℕ
+reachedOf w = getD w reachedWord 0
 
 unfoldable pub parentAt : List ℕ → ℕ → ℕ
 parentAt w k = getD w (intervalStart k + parentWord) 0
@@ -77,6 +84,10 @@ bestColumnAt w k = getD w (intervalStart k + bestColumnWord) 0
 
 unfoldable pub bestSumAt : List ℕ → ℕ → ℕ
 bestSumAt w k = getD w (intervalStart k + bestSumWord) 0
+
+-- 1 once column c is reached, else 0
+unfoldable pub markAt : List ℕ → ℕ → ℕ
+markAt w c = getD w (intervalStart c + markWord) 0
 
 unfoldable pub intervalAt : List ℕ → ℕ → Interval
 intervalAt w k = interval (parentAt w k) (firstAt w k) (lastAt w k)

@@ -7,10 +7,11 @@
 use mathlib.Core.Bool.{cond, _&&_}
 use mathlib.Core.List.{List, [], _∷_, map}
 use Prim.Native.Nat.{ℕ, zero, suc, _+_, _*_}
-use lib.Dec.{eqb, leb}
+use lib.Dec.{eqb}
 use lib.ListN.{getD, take, drop}
-use Rattle.definitions.specs.Limits.{maxVertices, maxPieces, maxSize, maxLength, rowPlaces, tablePlaces}
+use Rattle.definitions.specs.Limits.{maxVertices, maxPieces, maxSize, rowPlaces, tablePlaces}
 use Rattle.definitions.specs.Lists.{every, different, within, upFrom, firstCause}
+use Rattle.definitions.specs.Metres.{isLength}
 use Rattle.definitions.specs.Network.{Piece}
 use Rattle.definitions.specs.Blocks.{blocksOf, passes}
 
@@ -26,9 +27,9 @@ judgeSize m = cond (within maxSize m) 0 4
 unfoldable pub judgeVertices : ℕ → List ℕ → ℕ
 judgeVertices n vertices = cond (every (within n) vertices && different vertices) 0 5
 
--- row i with a length that is too large, or with another one than 0 on the diagonal
+-- row i with a length that no table may hold, or with another one than 0 on the diagonal, no path among these
 unfoldable pub judgeRow : ℕ → List ℕ → ℕ
-judgeRow i row = cond (every (λ l. leb l maxLength) row && eqb (getD row i 0) 0) 0 6
+judgeRow i row = cond (every isLength row && eqb (getD row i 0) 0) 0 6
 
 -- rows in order, the first of them row i
 unfoldable pub judgeRows : ℕ → List (List ℕ) → ℕ

@@ -4,6 +4,7 @@
 --   RunProofs RunLaws                         of `intervals` in the file Model
 --   OrderLaws                                 of the order of intervals, in the files Model and Entries
 --   FieldProofs LineProofs FieldBack LineBack of `readText` in the file Text: from a text to its plan, and back; for one field, for all lines
+--   FieldKinds                                plain fields and length fields: each is read as it is written, and back
 --   TextLaws                                  the same, of the whole text
 --   NeverRefused Diagonal                     what a text is refused for: of `refused-by-6-exactly` in the file Text
 --   FieldBound                                the bound on a field's value; its steps, a digit more, serve the code's reader too
@@ -19,6 +20,7 @@ pub mod ReadLaws
 pub mod FieldProofs
 pub mod FieldBound
 pub mod FieldBack
+pub mod FieldKinds
 pub mod LineProofs
 pub mod LineBack
 pub mod TextLaws

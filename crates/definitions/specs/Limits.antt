@@ -5,7 +5,7 @@
 --   rowPlaces .. intervalPlaces, linePlaces            the sizes of the lent buffers
 --   columnBytes lineFields lastPlace                   a field that is written; the fields of a line, and the last of them
 --   callSize answerSize intervalSize arcSize           how many numbers a call, an answer, an interval and an arc are
---   unreached noTarget unusedInterval                  what stands where there is no label, no target, no interval
+--   unreached noTarget unusedInterval noPath           what stands where there is no label, no target, no interval, no path
 --   sum below                                          a label and a length; the order of sums
 -- Each comment names the section of 01, or the request of 02, that the lines below it state.
 use mathlib.Core.Bool.{Bool}
@@ -124,6 +124,10 @@ unreached = 4294967295
 -- (02, request 4) The text reader returns it where a question has no target.
 abbrev pub noTarget : ℕ
 noTarget = 4294967295
+
+-- (02, request 7) It stands in a table where no run exists inside the piece; in a text that is `-`.
+abbrev pub noPath : ℕ
+noPath = 4294967295
 
 -- (01, The heap of one block) It fills the unused places of the interval buffer.
 abbrev pub unusedInterval : ℕ

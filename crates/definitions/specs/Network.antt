@@ -1,5 +1,6 @@
 -- Document 01, "The tables and what is made of them": pieces, arcs and walks.
 --   Rectangle Piece entry sizeOf     pieces with their vertices and lengths
+--   Open                             a network without no path: document 02, request 7
 --   ArcIn Arc Walk                   arcs, and walks with their lengths
 --   Shortest Unreached Distance      what a label says
 --   RouteArc IsArc Joined            arcs of a route, one behind the other
@@ -11,7 +12,8 @@ use mathlib.Core.List.{List, [], _∷_, map}
 use Prim.Native.Nat.{ℕ, _+_, _-_, _≤_, _<_}
 use lib.ListN.{getD, length}
 use Rattle.definitions.specs.Limits.{maxArcs, unreached}
-use Rattle.definitions.specs.Lists.{different, total}
+use Rattle.definitions.specs.Lists.{different, total, Every}
+use Rattle.definitions.specs.Metres.{IsNumber}
 
 -- The entry at a row and a column. How many rows and columns there are is given beside it.
 abbrev pub Rectangle : Type 0
@@ -34,7 +36,11 @@ sizeOf q = length (q .vertices)
 abbrev pub noPiece : Piece
 noPiece = record { vertices = []; rows = [] }
 
--- An arc, 01's leg, of a piece: from u to v, two different places of it, of the length l that its table has there.
+-- no table of these pieces shows that there is no path
+abbrev pub Open : List Piece → Type 0
+Open qs = Every (λ q. (i j : ℕ) → i < sizeOf q → j < sizeOf q → IsNumber (entry q i j)) qs
+
+-- An arc, 01's leg, of a piece: from u to v, two different places of it, of the length l that its table has there, which is a number.
 pub record ArcIn (q : Piece) (u v l : ℕ) : Type 0 where
   pub here : ℕ
   pub there : ℕ
@@ -44,6 +50,7 @@ pub record ArcIn (q : Piece) (u v l : ℕ) : Type 0 where
   pub tail : getD (q .vertices) here 0 ≡ u
   pub head : getD (q .vertices) there 0 ≡ v
   pub length-is : entry q here there ≡ l
+  pub some-path : IsNumber l
 
 -- an arc of one of the pieces: the union of their tables
 pub record Arc (qs : List Piece) (u v l : ℕ) : Type 0 where

@@ -18,7 +18,8 @@ use Rattle.definitions.specs.declared.Least.{Least}
 use Rattle.definitions.specs.declared.Least.the-variants.{Column, Nothing}
 use Rattle.definitions.specs.Limits.{maxLabel, labelPlaces, unreached}
 use Rattle.definitions.specs.Lists.{Every, count}
-use Rattle.definitions.specs.Network.{Distance, RouteArc, Routed}
+use Rattle.definitions.specs.Network.{Open, Distance, RouteArc, Routed}
+use Rattle.definitions.specs.Monge.{closed}
 use Rattle.definitions.specs.Blocks.{weight}
 use Rattle.definitions.specs.Intervals.{Interval, Rising, Distinct, FirstsRise}
 use Rattle.definitions.specs.Model.{fresh, intervals, Listed, HasBest, trace, AllExtractLeast, allowances}
@@ -42,8 +43,9 @@ pub record PlainSession (rows cols count : ℕ) (lengths calls : List ℕ) (r : 
   pub rising : Rising 0 kept
   -- inserted = removed + kept
   pub balanced : r .inserted ≡ r .removed + length kept
-  -- three inserted at most by each activation that is done, two by each extraction that hands out a column, none by any other call
-  pub few : r .inserted ≤ allowances (callsOf calls count) (answersIn answers count)
+  -- three inserted at most by each activation that is done, and one more for each closed column; two by each extraction that hands out a column; none by any
+  -- other call
+  pub few : r .inserted ≤ allowances (closed (rectangleOf lengths) rows cols) (callsOf calls count) (answersIn answers count)
   -- each extraction answers that nothing is left exactly if there is no interval where its turn comes, else the least sum left and the lowest column of it
   pub least : AllExtractLeast (rectangleOf lengths) rows cols fresh (callsOf calls count) (answersIn answers count)
 
@@ -54,14 +56,15 @@ pub record PlainLeast (rows cols : ℕ) (lengths : List ℕ) (i first end : ℕ)
   pub empty : end ≤ first → r ≡ Nothing
   pub leaves : cols < end → r ≡ Nothing
 
--- The labels are distances and at most `maxLabel`, places above n are unreached, and the counts are bounded by the sum over the pieces of m·⌈log₂ m⌉.
+-- The labels are distances and at most `maxLabel`, places above n are unreached, and the counts are bounded by the sum over the pieces of m·⌈log₂ m⌉, that of
+-- the intervals where no table shows that there is no path.
 pub record PlainLabels (n p : ℕ) (sizes vertices lengths : List ℕ) (source : ℕ) (r : LabelAnswer) (after : List ℕ) : Type 0 where
   pub distances : (i : ℕ) → i < labelPlaces → Distance (piecesOf p sizes vertices lengths) source (suc i) (getD after i 0)
   pub limited : (i : ℕ) → i < labelPlaces → getD after i 0 ≢ unreached → getD after i 0 ≤ maxLabel
   pub above-n : (i : ℕ) → n ≤ i → i < labelPlaces → getD after i 0 ≡ unreached
   pub reached-is : r .reached ≡ count (λ i. not (eqb (getD after i 0) unreached)) labelPlaces
   pub few-extracted : r .extracted ≤ weight (piecesOf p sizes vertices lengths)
-  pub few-inserted : r .inserted ≤ 5 * weight (piecesOf p sizes vertices lengths)
+  pub few-inserted : Open (piecesOf p sizes vertices lengths) → r .inserted ≤ 5 * weight (piecesOf p sizes vertices lengths)
 
 -- The buffer lists the arcs of a route from the source to the target: they join up, each is an arc of its piece, no vertex stands twice, there are at most
 -- 255, and their lengths add up to the label, which is the distance. To an unreached target, and to the source itself, there are none.

@@ -1,20 +1,24 @@
 -- Document 01, "Text layout": a plan as its lines, the plans that no cause turns away, and the texts whose first cause is a diagonal. The file `Text` says which of
 -- them are read and which are refused by 6.
---   writtenField writtenLine writtenPiece           a number, a line and a piece as bytes
+--   writtenField writtenLength                      a number and a length as bytes
+--   FieldWriting writtenLine writtenPiece           a line, of fields of one kind, and a piece
 --   questionFields written                          the fields of a question line, and a plan as bytes
 --   SoundPiece SoundPlan                            no cause turns it away, and each table is as large as its piece
 --   StoppedPiece DiagonalFirst                      the first cause is a length on the diagonal that is not 0
 use mathlib.Core.Path.{_≡_}
+use mathlib.Core.Bool.{true, cond}
 use mathlib.Core.List.{List, [], _∷_, _++_, flatMap}
 use mathlib.Core.Option.{Option, none, some}
 use mathlib.Core.Logic.{_≢_}
-use Prim.Native.Nat.{ℕ, _≤_, _<_}
+use Prim.Native.Nat.{ℕ, _<_}
+use lib.Dec.{eqb}
 use lib.ListN.{getD, length}
-use Rattle.definitions.specs.Limits.{maxLength}
+use Rattle.definitions.specs.Limits.{noPath}
 use Rattle.definitions.specs.Lists.{Every}
+use Rattle.definitions.specs.Metres.{isLength}
 use Rattle.definitions.specs.Network.{Piece, sizeOf}
 use Rattle.definitions.specs.Judgement.{judgeBounds, judgeSize, judgeVertices, judgeRows, judgePiece, judgeSource}
-use Rattle.definitions.specs.Fields.{lineEnd, fieldBytes, decimal, rightJustified}
+use Rattle.definitions.specs.Fields.{lineEnd, dash, fieldBytes, decimal, rightJustified}
 use Rattle.definitions.specs.Reading.{judgeAsked, Plan}
 
 -- ---- as bytes
@@ -23,13 +27,21 @@ use Rattle.definitions.specs.Reading.{judgeAsked, Plan}
 unfoldable pub writtenField : ℕ → List ℕ
 writtenField x = rightJustified fieldBytes (decimal x)
 
--- the fields, then a line's end
-unfoldable pub writtenLine : List ℕ → List ℕ
-writtenLine xs = flatMap writtenField xs ++ (lineEnd ∷ [])
+-- the same of a length: its digits, or `-` for no path
+unfoldable pub writtenLength : ℕ → List ℕ
+writtenLength l = rightJustified fieldBytes (cond (eqb l noPath) (dash ∷ []) (decimal l))
 
--- a line of the size and the vertices, then a line for each row
+-- how the fields of a line are written: `writtenField` or `writtenLength`
+abbrev pub FieldWriting : Type 0
+FieldWriting = ℕ → List ℕ
+
+-- the fields, then a line's end
+unfoldable pub writtenLine : FieldWriting → List ℕ → List ℕ
+writtenLine field xs = flatMap field xs ++ (lineEnd ∷ [])
+
+-- a line of the size and the vertices, then a line of lengths for each row
 unfoldable pub writtenPiece : Piece → List ℕ
-writtenPiece q = writtenLine (sizeOf q ∷ q .vertices) ++ flatMap writtenLine (q .rows)
+writtenPiece q = writtenLine writtenField (sizeOf q ∷ q .vertices) ++ flatMap (writtenLine writtenLength) (q .rows)
 
 -- the fields of a question line: the source, and the target if there is one
 unfoldable pub questionFields : ℕ → Option ℕ → List ℕ
@@ -39,7 +51,8 @@ questionFields source (some target) = source ∷ target ∷ []
 -- a line of n and the number of pieces, the pieces, the question line
 unfoldable pub written : Plan → List ℕ
 written plan =
-    writtenLine (plan .n ∷ length (plan .pieces) ∷ []) ++ (flatMap writtenPiece (plan .pieces) ++ writtenLine (questionFields (plan .source) (plan .target)))
+    writtenLine writtenField (plan .n ∷ length (plan .pieces) ∷ [])
+    ++ (flatMap writtenPiece (plan .pieces) ++ writtenLine writtenField (questionFields (plan .source) (plan .target)))
 
 -- ---- sound
 
@@ -66,10 +79,10 @@ pub record StoppedPiece (n : ℕ) (q : Piece) (row : List ℕ) : Type 0 where
   pub judged : judgeRows 0 (q .rows) ≡ 0
   -- it has more rows than these
   pub rows-left : length (q .rows) < sizeOf q
-  -- each row has as many lengths as there are vertices, and those of the last have room in their fields
+  -- each row has as many lengths as there are vertices, and those of the last are numbers up to the limit or no path
   pub wide : Every (λ r. length r ≡ sizeOf q) (row ∷ q .rows)
-  pub short : Every (λ l. l ≤ maxLength) row
-  -- its length on the diagonal is not 0
+  pub short : Every (λ l. isLength l ≡ true) row
+  -- its length on the diagonal is not 0: another number, or no path
   pub diagonal : getD row (length (q .rows)) 0 ≢ 0
 
 -- A text in which such a row is the first cause from front to back.
@@ -81,7 +94,7 @@ pub record DiagonalFirst (text : List ℕ) : Type 0 where
   pub piece : Piece
   pub row : List ℕ
   pub behind : List ℕ
-  pub lines : text ≡ writtenLine (n ∷ p ∷ []) ++ (flatMap writtenPiece before ++ (writtenPiece piece ++ (writtenLine row ++ behind)))
+  pub lines : text ≡ writtenLine writtenField (n ∷ p ∷ []) ++ (flatMap writtenPiece before ++ (writtenPiece piece ++ (writtenLine writtenLength row ++ behind)))
   -- no cause turns n, p or a piece in front away, and the network has more pieces than these
   pub bounds : judgeBounds n p ≡ 0
   pub each : Every (SoundPiece n) before

@@ -3,7 +3,7 @@
 -- model fits the arrays; Leaves hold for every model that fitted them. A relation of a state has a name of its own.
 --
 -- The arrays as values (`Labeller/State`, `Labeller/StepLoop`)
---   Tables                the matrix, and the one array of prepared numbers: they stay
+--   Tables                the matrix, the index of its rows, and the one array of prepared numbers: they stay
 --   Heaps                 the tables, the labels of all rows, and the words of all heaps
 --   Arrays                the heaps, and the tournament of the blocks
 --   Store                 the arrays, the labels of the vertices, and the words of the arcs that they were settled by
@@ -32,10 +32,11 @@
 --   PiecesDone Partly     the states when the first d pieces are done; the same, by block numbers
 --   PieceDone             the states when one piece is done
 --   Mapped MappedPiece    the tables are those of given pieces; of one piece
+--   StandsIn NextIn       a vertex stands at a place of all pieces; the next such place
 --
 -- A place of a piece (`Labeller/Activations`, `Labeller/Descent`, `Labeller/Halves`)
 --   ActivatePlaceNeeds Leaves Keeps    a place that can be activated; it is activated in the blocks of its piece; in those of the levels so far
---   SpotReady             the vertex stands at the place, its label too, and no activation is refused
+--   Spot SpotReady        a piece with a vertex of it and a label; the vertex stands at the place, its label too, and no activation is refused
 --   PlaceActivated        the states afterwards
 --   OnTheWay Descended    the states at a level of the halving; which blocks are done there and which are as they were
 --   Stands                a vertex stands at a place of a piece, whose blocks are those of given states
@@ -74,7 +75,7 @@
 --   Front                 so many numbers at each of the first places of a buffer, the rest as it was
 --
 -- The heap of one block, in the crate `heap`: its words against the model (`HeldModel` and `Index` of the definitions, `HeapCalls`, `LeastColumn`, `RowBest`, `Holds`)
---   Checked Holds         the block that is lent is checked; the words hold a given model of it
+--   Checked Holds         the block that is lent is checked; the words hold a given model of it, and say which columns are reached
 --   ActivateGiven ActivateNeeds Leaves    the model is held, and the activation is not refused; for some model; the next model is held, for every model
 --   MinExtracted ExtractMinLeaves    the column of least sum is extracted and answered, with its parent; for every model
 --   ParentIs              the parent of a column that is handed out
@@ -82,25 +83,45 @@
 --   RowActivated Falls    the next model is held, and the least sum falls as is returned
 --   LeastLeaves Keeps     the least of the bests; of the intervals so far
 --   IsLeast HasIndex      the lowest column of least length on a stretch of a row; the index that is asked for it
---   RowBest StretchFits   an interval carries the best of its stretch; a stretch that can be read
---   PutFirstLeaves        one interval with all columns
---   PutWonNeeds Leaves    the columns that are won, with room for the row's interval; it stands in their place
---   Owned Where           the parent and the sum of a column of an interval; a column lies in an interval, or nobody has it
+--   RowBest StretchFits   an interval carries the best of its stretch; a stretch that can be read, with a path at each column
+--   PutWonNeeds Leaves    the columns that are won, with room for the row's intervals; these stand in their place
+--   Owned Where           the parent and the sum of a column of an interval, a number there; a column lies in an interval, or nobody has it
 --
 -- The columns that a new row wins (`Search`, `Bisect`)
---   SearchNeeds Leaves    what the search may rely on; the intervals that meet the won columns, and those columns
+--   SearchNeeds Leaves    what the search may rely on; the intervals that meet the won columns, and the stretch of these
+--   WonAt LostAt          the row wins a column, from an interval's parent or as the first to reach it; it does not
+--   IsBelowNeeds          two rows whose sums at a column can be compared
 --   TurnLeaves EndOfLeaves     the column at which a test begins to hold; one past the last column before it
 --   FirstYesNeeds Between      a question whose answers do not fall back; where they turn to yes
+--   Rises Climbs          a test that does not fall back; along the columns of some intervals
 --   Asked                 a number that the question may be asked of
---   WinsBeside            where it says so, no column is won
+--   WinsBeside Beside     where it says so, no column of an interval is won; one next to a place between the intervals is
+--   Some                  something is won
+--   LeftWon RightWon      what is won from lower parents; from higher ones
+--   GapNeeds Leaves       what the search among columns in no interval may rely on; the stretch of those that the row is the first to reach
+--   FirstIn LastIn        the first of some numbers at which a test holds; one past the last
+--
+-- The columns that are reached (`Reaching`, `WordLaws`)
+--   Reaches ReachLeaves   the columns of a stretch at which the row has a path are marked in addition; and the intervals are as they were
+--   Counted               each column is marked or not, and the head counts those that are
+--   Marks                 words that agree in what is marked
+--
+-- The runs of a row, its intervals where it has a path (`RowRuns`)
+--   TurnsAt               the next column at which the row has a path, or has none
+--   CountKeeps            so many runs lie before a column
+--   RowReads              the columns of a row can be read, and its sums fit where it has a path
+--   PutRunsNeeds Leaves   room for the runs of a stretch; they stand there, with the least of their sums
+--   RunsKeeps LeastSum    some of them stand there; the least sum of these
+--   PutRunLeaves          one of them stands there, and the least sum so far takes it in
 --
 -- The words (`Laid`, `Clear`, `WordLaws`)
 --   CutNeeds Leaves       a column of an interval; the interval gives way to its rests
 --   Cleared               the same of some columns and the intervals that meet them, with a gap between the rests
 --   CanReplace Replaced   some intervals can give way to two rests; they have
+--   Fits                  a rest can be read
 --   MakeRoomNeeds Leaves  places for others in place of some intervals
 --   Meets Room            the intervals that meet some columns; the words have room for what takes their place
 --   PutRestLeaves PutLeaves    what is left of an interval; an interval
---   Laid In               the intervals lie in order, their sums fit, each carries its best; a column is one of an interval's
+--   Laid In               the intervals lie in order, parents have paths there whose sums fit, each carries its best; a column is one of an interval's
 --   ShiftLeaves Keeps     intervals are moved to other places; some are still to be moved
 --   Outside Word          words that agree but for some intervals; a word that is read

@@ -1,8 +1,8 @@
 -- Intervals give way to what is left of them.
 --   rest restLen PutRestLeaves rest-..          what is left of an interval
 --   MakeRoomNeeds MakeRoomLeaves room-..        places for others in place of some intervals
---   Rest CanReplace Replaced replace-done       intervals give way to two rests and a gap between them
---   Meets Room Cleared clear-..                 some columns are cleared, for `put_won`: the intervals that meet them, and what is left of these
+--   CanReplace Replaced replace-done       intervals give way to two rests and a gap between them
+--   Meets leftOf rightOf left-end right-end Room Cleared clear-needs cleared-from    some columns are cleared, for `put_won`: the intervals that meet them, and what is left of these
 --   CutNeeds CutLeaves cut-..                   one column is cut out of its interval
 use mathlib.Core.Path.{_≡_, refl, sym, ap, _∙_, subst}
 use mathlib.Core.Bool.{cond}
@@ -15,11 +15,13 @@ use borrow.Author.Tests.{lt-ltb, le-ltb}
 use lib.Dec.{ltb}
 use lib.ListN.{length, set, length-set}
 use lib.Seq.{getD-set-same, getD-set-other}
+use Rattle.definitions.specs.Limits.{rowPlaces}
 use Rattle.definitions.specs.Intervals.{Interval, interval}
 use Rattle.definitions.specs.Model.{Listed}
-use Rattle.definitions.specs.HeapWords.{countWord, markWord, heapWords, countOf, markOf, parentAt, firstAt, lastAt, span, kept, listedAt}
+use Rattle.definitions.specs.HeapWords.{countWord, reachedWord, heapWords, countOf, reachedOf, parentAt, firstAt, lastAt, span, kept, listedAt}
 use Rattle.logic.specs.Tests.{split-at, Order, less, more, order}
-use Rattle.heap.specs.WordLaws.{wordEnd, Word, span-same, span-cut, head-set, Outside, PutLeaves, ShiftLeaves}
+use Rattle.heap.specs.declared.Rest.{Rest}
+use Rattle.heap.specs.WordLaws.{wordEnd, Word, span-same, span-cut, head-set, head-mark, Marks, marks-same, marks-then, Outside, PutLeaves, ShiftLeaves}
 use Rattle.heap.specs.RowBest.{StretchFits, drawn, RowBest, drawn-best, best-moves}
 use Rattle.heap.specs.Laid.{Laid, part-fits}
 
@@ -48,7 +50,7 @@ module _ (rows : List (List ℕ)) (col0 : ℕ) (labels : List ℕ) where
   pub rest-none : (w : List ℕ) (i p f e : ℕ) → e ≤ f → PutRestLeaves w w rows col0 labels i p f e
   unfolding rest restLen span
   rest-none w i p f e h = record {
-    outside = record { long = refl; counted = refl; marked = refl; same = λ k o. refl };
+    outside = record { long = refl; counted = refl; marked = marks-same w; same = λ k o. refl };
     here = simp (le-ltb f e h);
     bests = λ k a b. absurd (omega (arith, simp (le-ltb f e h) at b));
   }
@@ -79,7 +81,7 @@ pub record MakeRoomNeeds (w : List ℕ) (lo hi number : ℕ) : Type 0 where
 -- u is w with so many places for others from lo on: the intervals before lo stay, those from hi on come after these places
 pub record MakeRoomLeaves (w u : List ℕ) (lo hi number : ℕ) : Type 0 where
   pub long : length u ≡ length w
-  pub marked : markOf u ≡ markOf w
+  pub marked : Marks u w
   pub counted : countOf u ≡ lo + number + (countOf w - hi)
   pub low : (k : ℕ) → k < lo → listedAt u k ≡ listedAt w k
   pub high : (k : ℕ) → k < countOf w - hi → listedAt u (lo + number + k) ≡ listedAt w (hi + k)
@@ -87,10 +89,13 @@ pub record MakeRoomLeaves (w u : List ℕ) (lo hi number : ℕ) : Type 0 where
 module _ (w : List ℕ) (lo hi number : ℕ) (needs : MakeRoomNeeds w lo hi number) where
   -- those from hi on are shifted, and the count is written
   pub room-made : (u : List ℕ) (n : ℕ) → Word (countOf w) n → ShiftLeaves w u hi (lo + number) n → MakeRoomLeaves w (set u countWord (lo + number + (n - hi))) lo hi number
-  unfolding countOf markOf
+  unfolding countOf reachedOf
   room-made u n n-is moved = record {
     long = length-set u countWord _ ∙ moved .long;
-    marked = let z : markWord ≢ countWord = omega arith in getD-set-other u countWord markWord _ 0 z ∙ moved .marked;
+    marked = marks-then (record {
+      number = let z : reachedWord ≢ countWord = omega arith in getD-set-other u countWord reachedWord _ 0 z;
+      each = λ c. head-mark u countWord _ c (omega arith);
+    }) (moved .marked);
     counted = getD-set-same u countWord _ 0 (omega (arith, moved .long, needs .words)) ∙ rw (n-is .is);
     low = λ k l. head-set u countWord _ k (omega arith) ∙ moved .low k (omega (arith, needs .ordered)) (omega arith);
     high = λ k l.
@@ -99,12 +104,6 @@ module _ (w : List ℕ) (lo hi number : ℕ) (needs : MakeRoomNeeds w lo hi numb
   }
 
 -- ---- two rests in place of intervals
-
--- what is left of an interval: its parent, and its columns from `first` up to, not including, `end`
-pub record Rest : Type 0 where
-  pub parent : ℕ
-  pub first : ℕ
-  pub end : ℕ
 
 -- the interval, if any, that a rest is, and how many that is
 abbrev pub restOf : Rest → List Interval
@@ -123,7 +122,7 @@ Fits rows col0 labels r = StretchFits rows col0 labels (r .parent) (r .first) (r
 
 -- the intervals lo up to, not including, hi can give way to two rests and a gap between them
 pub record CanReplace (w : List ℕ) (rows : List (List ℕ)) (col0 : ℕ) (labels : List ℕ) (lo hi : ℕ) (left right : Rest) (gap : ℕ) : Type 0 where
-  pub some : lo < hi
+  pub ordered : lo ≤ hi
   pub inside : hi ≤ countOf w
   pub words : heapWords (countOf w) ≤ length w
   pub room : heapWords (countWith w lo hi left right gap) ≤ length w
@@ -135,7 +134,7 @@ pub record CanReplace (w : List ℕ) (rows : List (List ℕ)) (col0 : ℕ) (labe
 -- u is w with two rests in their place and a gap of so many intervals at place mid; rests is how many intervals are rests
 pub record Replaced (w u : List ℕ) (rows : List (List ℕ)) (col0 : ℕ) (labels : List ℕ) (lo hi : ℕ) (before after : Rest) (gap mid rests : ℕ) : Type 0 where
   pub long : length u ≡ length w
-  pub marked : markOf u ≡ markOf w
+  pub marked : Marks u w
   pub counted : countOf u ≡ countWith w lo hi before after gap
   pub place : mid ≡ lo + lenOf before
   pub number : rests ≡ lenOf before + lenOf after
@@ -147,7 +146,7 @@ module _ (w : List ℕ) (rows : List (List ℕ)) (col0 : ℕ) (labels : List ℕ
     (x-is : x ≡ lenOf before) (y-is : y ≡ lenOf after) (number-is : number ≡ x + gap + y) where
   pub replace-room : MakeRoomNeeds w lo hi number
   replace-room = record {
-    ordered = omega (arith, needs .some);
+    ordered = needs .ordered;
     inside = needs .inside;
     words = needs .words;
     room = omega (arith, needs .room);
@@ -170,7 +169,7 @@ module _ (w : List ℕ) (rows : List (List ℕ)) (col0 : ℕ) (labels : List ℕ
       pub replace-done : Replaced w u3 rows col0 labels lo hi before after gap (lo + x) (x + y)
       replace-done = record {
         long = right .outside .long ∙ left .outside .long ∙ made .long;
-        marked = right .outside .marked ∙ left .outside .marked ∙ made .marked;
+        marked = marks-then (right .outside .marked) (marks-then (left .outside .marked) (made .marked));
         counted = count ∙ rw (x-is, y-is);
         place = rw x-is;
         number = rw (x-is, y-is);
@@ -201,7 +200,7 @@ module _ (w : List ℕ) (rows : List (List ℕ)) (col0 : ℕ) (labels : List ℕ
           -- those before the gap: kept, or the first rest
           in-front : (k : ℕ) → k < lo + x → RowBest rows col0 labels (listedAt u3 k)
           in-front k l = ⊎-elim
-              (λ (a : k < lo). best-moves rows col0 labels _ _ (outer k (inl a) (inl (omega arith)) ∙ made .low k a) (needs .bests k (omega (arith, needs .some, needs .inside))))
+              (λ (a : k < lo). best-moves rows col0 labels _ _ (outer k (inl a) (inl (omega arith)) ∙ made .low k a) (needs .bests k (omega (arith, needs .ordered, needs .inside))))
               (λ (a : lo ≤ k). best-moves rows col0 labels _ _ (right .outside .same k (inl (omega arith))) (left .bests k a (omega (arith, x-is))))
               (split-at k lo)
 
@@ -217,32 +216,55 @@ module _ (w : List ℕ) (rows : List (List ℕ)) (col0 : ℕ) (labels : List ℕ
 
 -- ---- clearing
 
--- the intervals lo up to, not including, hi are those that meet the columns `first` up to, not including, `end`
+-- The intervals lo up to, not including, hi are those that have some of the columns `first` up to, not including, `end`. There may be none: then the columns
+-- lie between two intervals.
 pub record Meets (w : List ℕ) (lo hi first end : ℕ) : Type 0 where
-  pub some : lo < hi
+  pub places : lo ≤ hi
   pub inside : hi ≤ countOf w
-  pub from-first : firstAt w lo ≤ first
-  pub start : first ≤ lastAt w lo
   pub ordered : first < end
-  pub stop : firstAt w (hi - 1) < end
-  pub to-last : end ≤ lastAt w (hi - 1) + 1
+  -- those before end before these columns, those after begin after them
+  pub below : (k : ℕ) → k < lo → lastAt w k < first
+  pub above : (k : ℕ) → hi ≤ k → k < countOf w → end ≤ firstAt w k
+  pub start : lo < hi → first ≤ lastAt w lo
+  pub stop : lo < hi → firstAt w (hi - 1) < end
+
+-- nothing is left
+abbrev pub noRest : Rest
+noRest = record { parent = 0; first = 0; end = 0 }
 
 -- what is left of the first of them, and of the last
-abbrev pub leftOf : List ℕ → ℕ → ℕ → Rest
-leftOf w lo first = record { parent = parentAt w lo; first = firstAt w lo; end = first }
+unfoldable pub leftOf : List ℕ → ℕ → ℕ → ℕ → Rest
+leftOf w lo hi first = cond (ltb lo hi) (record { parent = parentAt w lo; first = firstAt w lo; end = first }) noRest
 
-abbrev pub rightOf : List ℕ → ℕ → ℕ → Rest
-rightOf w hi end = record { parent = parentAt w (hi - 1); first = end; end = lastAt w (hi - 1) + 1 }
+unfoldable pub rightOf : List ℕ → ℕ → ℕ → ℕ → Rest
+rightOf w lo hi end = cond (ltb lo hi) (record { parent = parentAt w (hi - 1); first = end; end = lastAt w (hi - 1) + 1 }) noRest
+
+-- they end within the columns
+pub left-end : (w : List ℕ) (lo hi first cols : ℕ) → first ≤ cols → leftOf w lo hi first .end ≤ cols
+unfolding leftOf
+left-end w lo hi first cols l = go (order lo hi)
+  where
+    go : Order lo hi → leftOf w lo hi first .end ≤ cols
+    go (less t _) = simp t l
+    go (more t _) = simp t (omega arith)
+
+pub right-end : (w : List ℕ) (lo hi end cols : ℕ) → hi ≤ countOf w → ((k : ℕ) → k < countOf w → lastAt w k < cols) → rightOf w lo hi end .end ≤ cols
+unfolding rightOf
+right-end w lo hi end cols l lasts = go (order lo hi)
+  where
+    go : Order lo hi → rightOf w lo hi end .end ≤ cols
+    go (less t m) = simp t (omega (arith, lasts (hi - 1) (omega arith)))
+    go (more t _) = simp t (omega arith)
 
 -- how many intervals that is: 1 where some columns are left, 0 where none are
-abbrev pub leftRest : List ℕ → ℕ → ℕ → ℕ
-leftRest w lo first = lenOf (leftOf w lo first)
+abbrev pub leftRest : List ℕ → ℕ → ℕ → ℕ → ℕ
+leftRest w lo hi first = lenOf (leftOf w lo hi first)
 
-abbrev pub rightRest : List ℕ → ℕ → ℕ → ℕ
-rightRest w hi end = lenOf (rightOf w hi end)
+abbrev pub rightRest : List ℕ → ℕ → ℕ → ℕ → ℕ
+rightRest w lo hi end = lenOf (rightOf w lo hi end)
 
 abbrev pub countAfter : List ℕ → ℕ → ℕ → ℕ → ℕ → ℕ → ℕ
-countAfter w lo hi first end gap = countWith w lo hi (leftOf w lo first) (rightOf w hi end) gap
+countAfter w lo hi first end gap = countWith w lo hi (leftOf w lo hi first) (rightOf w lo hi end) gap
 
 -- there is room for them
 pub record Room (w : List ℕ) (lo hi first end gap : ℕ) : Type 0 where
@@ -252,33 +274,53 @@ pub record Room (w : List ℕ) (lo hi first end gap : ℕ) : Type 0 where
 
 -- u is w with the columns cleared
 abbrev pub Cleared : List ℕ → List ℕ → List (List ℕ) → ℕ → List ℕ → ℕ → ℕ → ℕ → ℕ → ℕ → ℕ → ℕ → Type 0
-Cleared w u rows col0 labels lo hi first end gap mid rests = Replaced w u rows col0 labels lo hi (leftOf w lo first) (rightOf w hi end) gap mid rests
+Cleared w u rows col0 labels lo hi first end gap mid rests = Replaced w u rows col0 labels lo hi (leftOf w lo hi first) (rightOf w lo hi end) gap mid rests
 
--- the rests as the code reads them
-module _ (w : List ℕ) (rows : List (List ℕ)) (col0 : ℕ) (labels : List ℕ) (lo hi first end gap p f q l : ℕ) (stretch : Meets w lo hi first end) (room : Room w lo hi first end gap) (laid : Laid w rows col0 labels)
-    (p-is : Word (parentAt w lo) p) (f-is : Word (firstAt w lo) f) (q-is : Word (parentAt w (hi - 1)) q) (l-is : Word (lastAt w (hi - 1)) l) where
-  abbrev Left : Rest
-  Left = record { parent = p; first = f; end = first }
+-- the rests as the code has them
+pub cleared-from : (w u : List ℕ) (rows : List (List ℕ)) (col0 : ℕ) (labels : List ℕ) (lo hi first end : ℕ) (left right : Rest) (gap mid rests : ℕ) → left ≡ leftOf w lo hi first → right ≡ rightOf w lo hi end
+    → Replaced w u rows col0 labels lo hi left right gap mid rests → Cleared w u rows col0 labels lo hi first end gap mid rests
+cleared-from w u rows col0 labels lo hi first end left right gap mid rests p q h = rw (p, q) at h
 
-  abbrev Right : Rest
-  Right = record { parent = q; first = end; end = l + 1 }
+-- no column is read
+none-fits : (rows : List (List ℕ)) (col0 : ℕ) (labels : List ℕ) → 0 < length rows → length rows ≤ length labels → col0 ≤ rowPlaces → Fits rows col0 labels noRest
+none-fits rows col0 labels some labelled inside = record {
+  row-in = some;
+  labelled = labelled;
+  small = omega arith;
+  columns = omega arith;
+  paths = λ c a b. absurd (omega arith);
+  fits = λ c a b. absurd (omega arith);
+}
 
-  pub clear-needs : CanReplace w rows col0 labels lo hi Left Right gap
-  clear-needs = rw (p-is .is, f-is .is, q-is .is, l-is .is) (record {
-    some = stretch .some;
+module _ (w : List ℕ) (rows : List (List ℕ)) (col0 : ℕ) (labels : List ℕ) (laid : Laid w rows col0 labels) (some : 0 < length rows) (col0-in : col0 ≤ rowPlaces)
+    (lo hi first end : ℕ) (stretch : Meets w lo hi first end) where
+  left-fits : Order lo hi → Fits rows col0 labels (leftOf w lo hi first)
+  unfolding leftOf
+  left-fits (less t l) = simp t (part-fits w rows col0 labels laid lo (firstAt w lo) first (omega (arith, stretch .inside)) (le-refl _) (omega (arith, stretch .start l)))
+  left-fits (more t l) = simp t (none-fits rows col0 labels some (laid .labelled) col0-in)
+
+  right-fits : Order lo hi → Fits rows col0 labels (rightOf w lo hi end)
+  unfolding rightOf
+  right-fits (less t l) = simp t (part-fits w rows col0 labels laid (hi - 1) end (lastAt w (hi - 1) + 1) (omega (arith, stretch .inside)) (omega (arith, stretch .stop l)) (le-refl _))
+  right-fits (more t l) = simp t (none-fits rows col0 labels some (laid .labelled) col0-in)
+
+  pub clear-needs : (left right : Rest) (gap : ℕ) → left ≡ leftOf w lo hi first → right ≡ rightOf w lo hi end → Room w lo hi first end gap → CanReplace w rows col0 labels lo hi left right gap
+  clear-needs left right gap p q room = rw (p, q) (record {
+    ordered = stretch .places;
     inside = stretch .inside;
     words = room .words;
     room = room .room;
     small = room .small;
-    left-fits = part-fits w rows col0 labels laid lo (firstAt w lo) first (omega (arith, stretch .some, stretch .inside)) (omega (arith, p-is .is, p-is .fits)) (le-refl _) (omega (arith, stretch .start));
-    right-fits = part-fits w rows col0 labels laid (hi - 1) end (lastAt w (hi - 1) + 1) (omega (arith, stretch .some, stretch .inside)) (omega (arith, q-is .is, q-is .fits)) (omega (arith, stretch .stop)) (le-refl _);
+    left-fits = left-fits (order lo hi);
+    right-fits = right-fits (order lo hi);
     bests = laid .bests;
   })
 
-  pub clear-leaves : (u : List ℕ) (mid rests : ℕ) → Replaced w u rows col0 labels lo hi Left Right gap mid rests → Cleared w u rows col0 labels lo hi first end gap mid rests
-  clear-leaves u mid rests h = rw (← p-is .is, ← f-is .is, ← q-is .is, ← l-is .is) h
-
 -- ---- a cut
+
+-- how many intervals there are when a column is cut out of interval k
+abbrev pub cutCount : List ℕ → ℕ → ℕ → ℕ
+cutCount w k column = k + restLen (firstAt w k) column + 0 + restLen (column + 1) (lastAt w k + 1) + (countOf w - (k + 1))
 
 -- the column is one of interval k, and there is room for what is left of it
 pub record CutNeeds (w : List ℕ) (rows : List (List ℕ)) (col0 : ℕ) (labels : List ℕ) (k column : ℕ) : Type 0 where
@@ -286,12 +328,13 @@ pub record CutNeeds (w : List ℕ) (rows : List (List ℕ)) (col0 : ℕ) (labels
   pub inside : k < countOf w
   pub low : firstAt w k ≤ column
   pub high : column ≤ lastAt w k
-  pub room : Room w k (k + 1) column (column + 1) 0
+  pub room : heapWords (cutCount w k column) ≤ length w
+  pub small : cutCount w k column < wordEnd
 
 -- u is w with the column cut out of interval k; rests is how many intervals are left of it
 pub record CutLeaves (w u : List ℕ) (rows : List (List ℕ)) (col0 : ℕ) (labels : List ℕ) (k column rests : ℕ) : Type 0 where
   pub long : length u ≡ length w
-  pub marked : markOf u ≡ markOf w
+  pub marked : Marks u w
   pub number : rests ≡ restLen (firstAt w k) column + restLen (column + 1) (lastAt w k + 1)
   pub counted : countOf u + 1 ≡ countOf w + rests
   pub listed : kept u
@@ -302,21 +345,6 @@ pub cut-few : {rows : List (List ℕ)} {col0 : ℕ} {labels : List ℕ} (w u : L
 cut-few w u k column rests h = omega (arith, h .number, restLen-most (firstAt w k) column, restLen-most (column + 1) (lastAt w k + 1))
 
 module _ (w : List ℕ) (rows : List (List ℕ)) (col0 : ℕ) (labels : List ℕ) (k column p f l : ℕ) (needs : CutNeeds w rows col0 labels k column) (p-is : Word (parentAt w k) p) (f-is : Word (firstAt w k) f) (l-is : Word (lastAt w k) l) where
-  -- the interval after the one at k begins at place k + 1
-  back : k + 1 - 1 ≡ k
-  back = omega arith
-
-  stretch : Meets w k (k + 1) column (column + 1)
-  stretch = record {
-    some = omega arith;
-    inside = omega (arith, needs .inside);
-    from-first = needs .low;
-    start = needs .high;
-    ordered = omega arith;
-    stop = rw back (omega (arith, needs .low));
-    to-last = rw back (omega (arith, needs .high));
-  }
-
   abbrev Before : Rest
   Before = record { parent = p; first = f; end = column }
 
@@ -324,7 +352,16 @@ module _ (w : List ℕ) (rows : List (List ℕ)) (col0 : ℕ) (labels : List ℕ
   After = record { parent = p; first = column + 1; end = l + 1 }
 
   pub cut-needs : CanReplace w rows col0 labels k (k + 1) Before After 0
-  cut-needs = clear-needs w rows col0 labels k (k + 1) column (column + 1) 0 p f p l stretch (needs .room) (needs .laid) p-is f-is (rw back p-is) (rw back l-is)
+  cut-needs = rw (p-is .is, f-is .is, l-is .is) (record {
+    ordered = omega arith;
+    inside = omega (arith, needs .inside);
+    words = needs .laid .words;
+    room = needs .room;
+    small = needs .small;
+    left-fits = part-fits w rows col0 labels (needs .laid) k (firstAt w k) column (needs .inside) (le-refl _) (omega (arith, needs .high));
+    right-fits = part-fits w rows col0 labels (needs .laid) k (column + 1) (lastAt w k + 1) (needs .inside) (omega (arith, needs .low)) (le-refl _);
+    bests = needs .laid .bests;
+  })
 
   pub cut-done : (u : List ℕ) (mid rests : ℕ) → Replaced w u rows col0 labels k (k + 1) Before After 0 mid rests → CutLeaves w u rows col0 labels k column rests
   unfolding kept

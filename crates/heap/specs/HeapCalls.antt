@@ -2,56 +2,59 @@
 --   Becomes becomes                  the words hold another model; inserted and removed are the model's
 --   ActivateGiven ActivateNeeds ActivateLeaves    an activation, of a given model; of some model; of any
 --   Falls RowActivated               what it leaves, and how the least sum falls
---   PutFirstLeaves first-done        one interval with all columns
---   activated-first                  the first row gets it
---   PutWonNeeds PutWonLeaves won-needs    the columns that are won get the row's interval
+--   PutWonNeeds PutWonLeaves won-needs    the columns that are won get the row's intervals
+--   marks-counted                    the marks of the columns that are reached
 --   activated-none activated-some    nothing is won; columns are won
+--   PutAllLeaves activated-all       all columns are won at once
 --   removedBy ParentIs MinExtracted ExtractMinLeaves extracted-..    an extraction, from a given model; from any
 use mathlib.Core.Path.{_≡_, refl, sym, ap, _∙_}
-use mathlib.Core.Bool.{false}
+use mathlib.Core.Bool.{Bool, true, false, cond, _||_, or-true, or-false}
 use mathlib.Core.List.{List, [], _∷_, _++_, map}
-use mathlib.Core.Logic.{inl, inr, ⊎-elim, _≢_}
+use mathlib.Core.Logic.{_⊎_, inl, inr, ⊎-elim, _≢_}
 use Prim.Native.Nat.{ℕ, suc, pred, _+_, _-_, _≤_, _<_}
-use native.Mathlib.Nat.{le-refl}
+use native.Mathlib.Nat.{zero-add, le-refl}
 use native.Mathlib.Omega.{arith}
+use lib.Dec.{eqb}
 use lib.ListN.{length, getD, set, length-append, length-set}
 use lib.Seq.{getD-set-same, getD-set-other}
-use Rattle.definitions.specs.Limits.{maxLabel, rowPlaces}
-use Rattle.definitions.specs.Lists.{Every}
-use Rattle.definitions.specs.Best.{Best, nobody, by, lesser, least, leastFrom}
-use Rattle.definitions.specs.Intervals.{interval, isKept, countNew}
-use Rattle.definitions.specs.Model.{Activation, Model, available, isActivated, activate, extract, extractionOf, answerOf, intervals, leastLeft, Listed, bestIn, Reached}
-use Rattle.definitions.specs.Laws.LeastLaws.{least-lowest}
+use Rattle.definitions.specs.Limits.{maxLabel, rowPlaces, unreached, below}
+use Rattle.definitions.specs.Lists.{mem, count, Every}
+use Rattle.definitions.specs.Monge.{isClosed}
+use Rattle.definitions.specs.Best.{Best, nobody, by, lesser, leastFrom}
+use Rattle.definitions.specs.Intervals.{countNew}
+use Rattle.definitions.specs.Model.{Model, parent, available, isActivated, activate, extract, extractionOf, answerOf, intervals, leastLeft, Listed, Reached}
+use Rattle.definitions.specs.Laws.LeastLaws.{least-lowest, leastFrom-same}
 use Rattle.definitions.specs.Labelling.{activation, extraction, placeIn}
-use Rattle.definitions.specs.HeapWords.{countWord, markWord, headWords, heapWords, countOf, markOf, parentAt, bestColumnAt, bestSumAt, intervalAt, span, kept, bestAt, listedAt}
-use Rattle.definitions.specs.HeldModel.{lentEntry, mark, Holds}
-use Rattle.definitions.specs.Laws.RunProofs.{tag, runs-length}
+use Rattle.definitions.specs.HeapWords.{countWord, reachedWord, heapWords, countOf, reachedOf, markAt, parentAt, lastAt, bestSumAt, span, kept, listedAt}
+use Rattle.definitions.specs.HeldModel.{lentEntry, isReached, Holds}
+use Rattle.definitions.specs.Laws.RunProofs.{runs-none, runs-length}
 use Rattle.definitions.specs.declared.Extraction.{Extraction}
 use Rattle.definitions.specs.declared.Extraction.the-variants.{Column, Nothing}
-use Rattle.basics.specs.ListLaws.{every-snoc}
+use Rattle.basics.specs.ListLaws.{every-snoc, count-same, count-some, count-full}
 use Rattle.heap_laws.specs.ModelCalls.{Activates, step-activate, step-extract}
-use Rattle.heap_laws.specs.Won.{won, won-between, Range}
-use Rattle.heap_laws.specs.Sound.{reached-step, reached-sound}
+use Rattle.heap_laws.specs.Parents.{parent-snoc, parent-row, parent-path}
+use Rattle.heap_laws.specs.Won.{won, won-path, won-nowhere, won-between, Range, range-of-ends}
+use Rattle.heap_laws.specs.Sound.{reached-step, reached-sound, extracted-lost}
 use Rattle.heap_laws.specs.Counting.{countNew-same, runs-distinct, balance}
 use Rattle.heap_laws.specs.Edits.{before, from, cutAt}
-use Rattle.heap_laws.specs.ColumnParents.{lookup-available, won-outside}
-use Rattle.heap_laws.specs.Activate.{activate-none, activate-edit, activate-inserted, none-kept, activate-first}
-use Rattle.heap_laws.specs.Extract.{none-found, extract-edit, extract-inserted}
-use Rattle.heap_laws.specs.Lesser.{lesser-nobody}
-use Rattle.heap_laws.specs.Bests.{least-of-bests, SameSum, same-sum, activate-same, activate-lowers}
-use Rattle.logic.specs.Tests.{split-at}
-use Rattle.heap.specs.WordLaws.{length-span, PutLeaves}
-use Rattle.heap.specs.Clear.{countAfter, Meets, Room, Cleared, CutNeeds, CutLeaves}
-use Rattle.heap.specs.RowBest.{StretchFits, drawn, RowBest, drawn-best, best-moves}
+use Rattle.heap_laws.specs.Activate.{labelled, closed-at, activate-none, activate-range, activate-edit, activate-inserted}
+use Rattle.heap_laws.specs.Extract.{extract-edit, extract-inserted}
+use Rattle.heap_laws.specs.Bests.{SameSum, activate-same, activate-lowers}
+use Rattle.logic.specs.Tests.{clash, split-at, Truth, holds, fails, truth, Order, less, more, order}
+use Rattle.heap.specs.WordLaws.{wordEnd, Word, length-span, span-same, head-mark, marks-then, PutLeaves}
+use Rattle.heap.specs.Clear.{rest, restLen, leftOf, rightOf, countAfter, Meets, Room, Cleared, cutCount, CutNeeds, CutLeaves}
+use Rattle.heap.specs.RowBest.{StretchFits, drawn, RowBest, best-moves}
+use Rattle.heap.specs.RowRuns.{openSums, hasPath, path-from, no-path-is, open-some, open-none, rowRuns, some-run, full-run, RowReads, stretch-fits, PutRunsLeaves, runs-begin, runs-done}
 use Rattle.heap.specs.Laid.{In, Laid}
-use Rattle.heap.specs.Search.{wins, SearchLeaves}
-use Rattle.heap.specs.Holds.{all-pairs, sound-of, run-at, count-most, owned, sum-fits, Where, within, outside, where-is, bests-from-rows, laid, wins-is}
+use Rattle.heap.specs.Search.{reachesFirst, WonAt, from-parent, as-first, LostAt, SearchLeaves}
+use Rattle.heap.specs.Reaching.{Counted, Reaches, ReachLeaves, reach-none, WinsAll, MarkAllLeaves, reach-all}
+use Rattle.heap.specs.Holds.{sound-of, run-at, within-cols, count-most, owned, sum-fits, Where, within, outside, where-is, bests-from-rows, laid, wins-is, first-won}
 use Rattle.heap.specs.declared.Lowest.the-variants as lowest
 use Rattle.heap.specs.declared.Lowest.the-variants.{At}
 use Rattle.heap.specs.declared.Activated.{Activated}
 use Rattle.heap.specs.declared.Extracted.{Extracted}
 use Rattle.heap.specs.LeastColumn.{LeastLeaves, least-is-left}
-use Rattle.heap.specs.Cuts.{cut-lengths, clear-trims, clear-kept, cut-kept, cut-trims, span-put}
+use Rattle.heap.specs.Cuts.{cut-lengths, clear-trims, clear-kept, cut-count, cut-kept, cut-trims}
 
 -- the words u hold the model m′ after m, and so many intervals are inserted and removed
 pub record Becomes (u : List ℕ) (rows : List (List ℕ)) (col0 cols : ℕ) (labels : List ℕ) (m m′ : Model) (inserted removed : ℕ) : Type 0 where
@@ -64,7 +67,8 @@ unfolding kept
 length-kept w = length-span w 0 (countOf w)
 
 module _ (w u : List ℕ) (rows : List (List ℕ)) (col0 cols : ℕ) (labels : List ℕ) (m : Model) (h : Holds w rows col0 cols labels m) (m′ : Model)
-    (long : length u ≡ length w) (marked : markOf u ≡ mark (m′ .activated)) (listed : kept u ≡ intervals (lentEntry rows col0) cols m′)
+    (long : length u ≡ length w) (marked : (c : ℕ) → c < cols → markAt u c ≡ cond (isReached (parent (lentEntry rows col0) (m′ .activated) c)) 1 0)
+    (reached-are : reachedOf u ≡ count (λ c. isReached (parent (lentEntry rows col0) (m′ .activated) c)) cols) (listed : kept u ≡ intervals (lentEntry rows col0) cols m′)
     (labels-at : Every (λ a. getD labels (a .row) 0 ≡ a .label) (m′ .activated)) (reached : Reached (lentEntry rows col0) (length rows) cols m′)
     (bests : (k : ℕ) → k < countOf u → RowBest rows col0 labels (listedAt u k)) where
   -- as many are removed as makes the lengths come out
@@ -79,6 +83,7 @@ module _ (w u : List ℕ) (rows : List (List ℕ)) (col0 cols : ℕ) (labels : L
       listed = listed;
       bests = bests-from-rows u rows col0 cols labels m′ listed labels-at (reached-sound (lentEntry rows col0) (length rows) cols m′ reached) bests;
       marked = marked;
+      reached-are = reached-are;
       labels-at = labels-at;
       reached = reached;
     };
@@ -122,49 +127,37 @@ ActivateLeaves w u rows col0 cols labels row r =
 abbrev answered : ℕ → ℕ → ℕ → Activated
 answered inserted removed sum = record { inserted = inserted; removed = removed; sum = sum }
 
--- the row wins the columns `first` up to `end`: the intervals lo up to hi meet them, and there is room for the row's own between their rests
-pub record PutWonNeeds (w : List ℕ) (rows : List (List ℕ)) (col0 : ℕ) (labels : List ℕ) (row lo hi first end : ℕ) : Type 0 where
+-- one interval with all columns, and all columns are reached
+pub record PutAllLeaves (w x : List ℕ) (rows : List (List ℕ)) (col0 : ℕ) (labels : List ℕ) (row cols : ℕ) : Type 0 where
+  pub between : List ℕ
+  pub put : PutLeaves (set w countWord 1) between 0 (drawn rows col0 labels row 0 cols)
+  pub marked : MarkAllLeaves between x cols
+
+-- the row wins columns from `first` up to `end`: the intervals lo up to hi meet them, and there is room for the row's own between their rests
+pub record PutWonNeeds (w : List ℕ) (rows : List (List ℕ)) (col0 cols : ℕ) (labels : List ℕ) (row lo hi first end : ℕ) : Type 0 where
   pub laid : Laid w rows col0 labels
   pub stretch : Meets w lo hi first end
-  pub room : Room w lo hi first end 1
-  pub row-fits : StretchFits rows col0 labels row first end
+  pub room : Room w lo hi first end (length (rowRuns rows col0 labels row first end))
+  pub reads : RowReads rows col0 labels row end
+  pub at-first : hasPath rows col0 row first ≡ true
+  pub at-last : hasPath rows col0 row (end - 1) ≡ true
+  -- where all columns are reached it has a path everywhere between
+  pub full : reachedOf w ≡ cols → (c : ℕ) → first ≤ c → c < end → hasPath rows col0 row c ≡ true
+  pub lasts : (k : ℕ) → k < countOf w → lastAt w k < cols
+  pub inside : end ≤ cols
   pub places : hi ≤ rowPlaces
 
--- v is w with these columns cleared and the row's interval at place mid
+-- v is w with these columns cleared and the row's intervals from place mid on, so many
 pub record PutWonLeaves (w v : List ℕ) (rows : List (List ℕ)) (col0 : ℕ) (labels : List ℕ) (row lo hi first end : ℕ) (r : Activated) : Type 0 where
   pub between : List ℕ
   pub mid : ℕ
   pub rests : ℕ
-  pub cleared : Cleared w between rows col0 labels lo hi first end 1 mid rests
-  pub put : PutLeaves between v mid (drawn rows col0 labels row first end)
-  pub inserted-is : r .inserted ≡ rests + 1
+  pub number : ℕ
+  pub cleared : Cleared w between rows col0 labels lo hi first end number mid rests
+  pub put : PutRunsLeaves between v rows col0 labels row mid number first end (r .sum)
+  pub number-is : number ≡ length (rowRuns rows col0 labels row first end)
+  pub inserted-is : r .inserted ≡ rests + number
   pub removed-is : r .removed ≡ hi - lo
-  pub sum-is : r .sum ≡ bestSumAt v mid
-
--- one interval with all columns, and the mark
-pub record PutFirstLeaves (w u : List ℕ) (rows : List (List ℕ)) (col0 : ℕ) (labels : List ℕ) (row cols : ℕ) : Type 0 where
-  pub long : length u ≡ length w
-  pub marked : markOf u ≡ 1
-  pub counted : countOf u ≡ 1
-  pub listed : kept u ≡ interval row 0 (cols - 1) ∷ []
-  pub here : listedAt u 0 ≡ drawn rows col0 labels row 0 cols
-
--- both head words are written, then the interval
-pub first-done : (w u : List ℕ) (rows : List (List ℕ)) (col0 : ℕ) (labels : List ℕ) (row cols : ℕ) → headWords ≤ length w
-    → PutLeaves (set (set w countWord 1) markWord 1) u 0 (drawn rows col0 labels row 0 cols) → PutFirstLeaves w u rows col0 labels row cols
-unfolding countOf markOf kept
-first-done w u rows col0 labels row cols l p =
-    let a : countWord ≢ markWord = omega arith in
-    let n = length-set w countWord 1 in
-    let k : countOf u ≡ 1 =
-    p .outside .counted ∙ unfold countOf in getD-set-other (set w countWord 1) markWord countWord 1 0 a ∙ getD-set-same w countWord 1 0 (omega arith) in
-    record {
-      long = p .outside .long ∙ simp length-set;
-      marked = p .outside .marked ∙ getD-set-same (set w countWord 1) markWord 1 0 (omega arith);
-      counted = k;
-      listed = ap (λ (i : ℕ). span u 0 i) k ∙ span-put (set (set w countWord 1) markWord 1) u 0 (drawn rows col0 labels row 0 cols) p;
-      here = p .here;
-    }
 
 module _ (w : List ℕ) (rows : List (List ℕ)) (col0 cols : ℕ) (labels : List ℕ) (row : ℕ) (m : Model) (c : ActivateGiven w rows col0 cols labels row m) where
   abbrev next : Model
@@ -180,189 +173,357 @@ module _ (w : List ℕ) (rows : List (List ℕ)) (col0 cols : ℕ) (labels : Lis
   unfolding activate
   next-labels = every-snoc (λ a. getD labels (a .row) 0 ≡ a .label) (m .activated) (record { row = row; label = getD labels row 0 }) (c .held .labels-at) refl
 
-  next-mark : mark (next .activated) ≡ 1
-  unfolding activate mark
-  next-mark = go (m .activated)
-    where
-      go : (xs : List Activation) → mark (xs ++ (record { row = row; label = getD labels row 0 } ∷ [])) ≡ 1
-      go [] = refl
-      go (a ∷ xs) = refl
+  -- ---- the marks
 
-  pub some-mark : markOf w ≢ 0 → m .activated ≢ []
-  unfolding mark
-  some-mark q z = q (c .held .marked ∙ ap mark z)
+  -- a column has a parent then if it had one, or if the row has a path there
+  next-parent : (d : ℕ) → parent (lentEntry rows col0) (next .activated) d ≡ lesser (parent (lentEntry rows col0) (m .activated) d) (openSums rows col0 labels row d)
+  unfolding activate
+  next-parent d = parent-snoc (lentEntry rows col0) (m .activated) (labelled row (getD labels row 0)) d
 
-  none-mark : markOf w ≡ 0 → m .activated ≡ []
-  unfolding mark
-  none-mark q = go (m .activated) (sym (c .held .marked) ∙ q)
+  either-reached : (x y : Best) → isReached (lesser x y) ≡ (isReached x || isReached y)
+  unfolding lesser isReached
+  either-reached nobody y = refl
+  either-reached (by p s) nobody = refl
+  either-reached (by p s) (by q t) = go (order t s)
     where
-      go : (xs : List Activation) → mark xs ≡ 0 → xs ≡ []
-      go [] z = refl
-      go (a ∷ xs) z = absurd (omega arith)
+      go : Order t s → isReached (cond (below t s) (by q t) (by p s)) ≡ true
+      go (less z _) = simp z
+      go (more z _) = simp z
+
+  next-is : (d : ℕ) → isReached (parent (lentEntry rows col0) (next .activated) d) ≡ (isReached (parent (lentEntry rows col0) (m .activated) d) || hasPath rows col0 row d)
+  unfolding isReached
+  next-is d = ap isReached (next-parent d) ∙ either-reached (parent (lentEntry rows col0) (m .activated) d) (openSums rows col0 labels row d) ∙ go (truth (hasPath rows col0 row d))
+    where
+      go : Truth (hasPath rows col0 row d) → (isReached (parent (lentEntry rows col0) (m .activated) d) || isReached (openSums rows col0 labels row d)) ≡ (isReached (parent (lentEntry rows col0) (m .activated) d) || hasPath rows col0 row d)
+      go (holds t) = rw (open-some rows col0 labels row d t, t)
+      go (fails t) = rw (open-none rows col0 labels row d t, t)
+
+  pub marks-counted : Counted w cols
+  marks-counted = record {
+    words = c .held .long;
+    small = omega (arith, c .held .checked .inside);
+    marks = λ d l. go d l (truth (isReached (parent (lentEntry rows col0) (m .activated) d)));
+    number = c .held .reached-are ∙ count-same _ _ cols (λ d l. eq d l (truth (isReached (parent (lentEntry rows col0) (m .activated) d))));
+  }
+    where
+      go : (d : ℕ) → d < cols → Truth (isReached (parent (lentEntry rows col0) (m .activated) d)) → markAt w d ≤ 1
+      go d l (holds t) = omega (arith, simp t at (c .held .marked d l))
+      go d l (fails t) = omega (arith, simp t at (c .held .marked d l))
+
+      eq : (d : ℕ) → d < cols → Truth (isReached (parent (lentEntry rows col0) (m .activated) d)) → isReached (parent (lentEntry rows col0) (m .activated) d) ≡ eqb (markAt w d) 1
+      eq d l (holds t) = let q : markAt w d ≡ 1 = simp t at (c .held .marked d l) in rw (t, q)
+      eq d l (fails t) = let q : markAt w d ≡ 0 = simp t at (c .held .marked d l) in rw (t, q)
+
+  -- they stay when the row gets its columns
+  pub marks-after : (v : List ℕ) (lo hi first end : ℕ) (r : Activated) → PutWonLeaves w v rows col0 labels row lo hi first end r → Counted v cols
+  marks-after v lo hi first end r x =
+      let same = marks-then (x .put .outside .marked) (x .cleared .marked) in
+      record {
+        words = omega (arith, x .put .outside .long, x .cleared .long, c .held .long);
+        small = marks-counted .small;
+        marks = λ d l. rw (same .each d) (marks-counted .marks d l);
+        number = same .number ∙ marks-counted .number ∙ count-same _ _ cols (λ d l. rw (same .each d));
+      }
+
+  -- u marks in addition what the row has a path at, between `first` and `end`; of no other column is it the first
+  module _ (u : List ℕ) (first end : ℕ) (r : Reaches w u rows col0 cols row first end)
+      (lost : (d : ℕ) → d < cols → (d < first) ⊎ (end ≤ d) → reachesFirst w rows col0 row d ≡ false) where
+    marks-next : (d : ℕ) → d < cols → markAt u d ≡ cond (isReached (parent (lentEntry rows col0) (next .activated) d)) 1 0
+    unfolding reachesFirst
+    marks-next d l = go (truth (hasPath rows col0 row d)) (truth (isReached (parent (lentEntry rows col0) (m .activated) d)))
+      where
+        old : markAt u d ≡ markAt w d → isReached (parent (lentEntry rows col0) (m .activated) d) ≡ isReached (parent (lentEntry rows col0) (next .activated) d)
+            → markAt u d ≡ cond (isReached (parent (lentEntry rows col0) (next .activated) d)) 1 0
+        old q z = q ∙ c .held .marked d l ∙ ap (λ (b : Bool). cond {A = ℕ} b 1 0) z
+
+        outer : (d < first) ⊎ (end ≤ d) → hasPath rows col0 row d ≡ true → Truth (isReached (parent (lentEntry rows col0) (m .activated) d)) → markAt u d ≡ cond (isReached (parent (lentEntry rows col0) (next .activated) d)) 1 0
+        outer o t (holds v) = old (r .outside d o) (rw (next-is d, v))
+        outer o t (fails v) =
+            let q : markAt w d ≡ 0 = simp v at (c .held .marked d l) in
+            absurd (clash (simp (q, t) refl) (lost d l o))
+
+        go : Truth (hasPath rows col0 row d) → Truth (isReached (parent (lentEntry rows col0) (m .activated) d)) → markAt u d ≡ cond (isReached (parent (lentEntry rows col0) (next .activated) d)) 1 0
+        go (fails t) v = old (r .without d t) (rw (next-is d, t, or-false))
+        go (holds t) v = ⊎-elim
+            (λ (a : d < first). outer (inl a) t v)
+            (λ (a : first ≤ d). ⊎-elim
+            (λ (b : d < end). r .inside d a b t ∙ rw (next-is d, t, or-true))
+            (λ (b : end ≤ d). outer (inr b) t v)
+            (split-at d end))
+            (split-at d first)
+
+    reached-next : reachedOf u ≡ count (λ d. isReached (parent (lentEntry rows col0) (next .activated) d)) cols
+    reached-next = r .marks .number ∙ count-same _ _ cols (λ d l. eq d l (truth (isReached (parent (lentEntry rows col0) (next .activated) d))))
+      where
+        eq : (d : ℕ) → d < cols → Truth (isReached (parent (lentEntry rows col0) (next .activated) d)) → eqb (markAt u d) 1 ≡ isReached (parent (lentEntry rows col0) (next .activated) d)
+        eq d l (holds t) = let q : markAt u d ≡ 1 = simp t at (marks-next d l) in rw (t, q)
+        eq d l (fails t) = let q : markAt u d ≡ 0 = simp t at (marks-next d l) in rw (t, q)
+
+  -- ---- what is won
 
   -- columns of the row can be read
-  row-fits : (first end : ℕ) → end ≤ cols → StretchFits rows col0 labels row first end
-  row-fits first end l = record {
+  row-reads : (end : ℕ) → end ≤ cols → RowReads rows col0 labels row end
+  row-reads end l = record {
     row-in = c .row-in;
     labelled = c .held .labelled;
     small = omega (arith, c .row-in, c .held .checked .few);
     columns = omega (arith, c .held .checked .inside);
-    fits = λ d a b. sum-fits w rows col0 cols labels m (c .held) row d (c .row-in) (omega arith) (c .limited);
+    fits = λ d a n. sum-fits w rows col0 cols labels m (c .held) row d (c .row-in) (omega arith) n (c .limited);
   }
 
-  pub first-fits : (heapWords 1 ≤ length w) × (0 < cols) × StretchFits rows col0 labels row 0 cols
-  first-fits = (omega (arith, c .held .long, c .held .checked .some), c .held .checked .some, row-fits 0 cols (le-refl cols))
+  -- the code's test over the words is the model's over the columns
+  won-is : (d : ℕ) → d < cols → WonAt w rows col0 labels row d → won (lentEntry rows col0) (m .activated) row (getD labels row 0) d ≡ true
+  won-is d l (from-parent k a i t) = sym (wins-is w rows col0 cols labels m (c .held) row k d a i) ∙ t
+  won-is d l (as-first t) = first-won w rows col0 cols labels m (c .held) row (c .row-in) (c .high) d l t
 
-  pub activated-first : markOf w ≡ 0 → (u : List ℕ) (s : ℕ) → PutFirstLeaves w u rows col0 labels row cols → s ≡ bestSumAt u 0 → RowActivated u rows col0 cols labels m next (answered 1 0 s)
-  unfolding countNew isKept least lesser
-  activated-first q u s f s-is =
-      let none = none-mark q in
-      let z : cols - 1 ≡ pred cols = omega arith in
-      let e = none-kept (lentEntry rows col0) cols m none in
-      let l : intervals (lentEntry rows col0) cols next ≡ interval row 0 (pred cols) ∷ [] =
-      activate-first (lentEntry rows col0) (length rows) cols m (sound-of (c .held)) row (getD labels row 0) (c .high) none (c .held .checked .some) in
-      let b : Becomes u rows col0 cols labels m next 1 0 =
-      becomes w u rows col0 cols labels m (c .held) next (f .long) (f .marked ∙ sym next-mark) (f .listed ∙ rw z (sym l)) next-labels next-reached
-      (λ k n. let y : k ≡ 0 = omega (arith, f .counted) in best-moves rows col0 labels _ _ (ap (listedAt u) y ∙ f .here) (drawn-best rows col0 labels row 0 cols (c .held .checked .some)))
-      1 0 (rw (l, e)) (omega (arith, f .counted, length-kept w, ap length (c .held .listed ∙ e))) in
-      let first : intervalAt u 0 ≡ interval row 0 (pred cols) = ap (λ (x : Listed). x .interval) (f .here) ∙ rw z in
-      let old : leastLeft (lentEntry rows col0) cols m ≡ nobody = none-found (lentEntry rows col0) cols m e in
-      let new : leastLeft (lentEntry rows col0) cols next ≡ bestAt u 0 =
-      sym (least-of-bests (lentEntry rows col0) cols next) ∙ ap (λ vs. least (map (bestIn (lentEntry rows col0) next) vs)) l ∙ lesser-nobody _
-      ∙ ap (bestIn (lentEntry rows col0) next) (sym first) ∙ sym (b .held .bests 0 (omega (arith, f .counted))) in
-      let fell : SameSum (leastLeft (lentEntry rows col0) cols next) (lesser (leastLeft (lentEntry rows col0) cols m) (by (bestColumnAt u 0) s)) =
-      same-sum (leastLeft (lentEntry rows col0) cols next) (lesser (leastLeft (lentEntry rows col0) cols m) (by (bestColumnAt u 0) s)) (rw (old, s-is) new) in
-      record {
-        changed = b;
-        falls = record { none = λ y. absurd (omega arith); some = λ _. (bestColumnAt u 0, fell) };
-      }
+  lost-is : (d : ℕ) → d < cols → LostAt w rows col0 labels row d → won (lentEntry rows col0) (m .activated) row (getD labels row 0) d ≡ false
+  unfolding reachesFirst available isReached
+  lost-is d l (f, t) = go (where-is w rows col0 cols labels m (c .held) d l)
+    where
+      -- nobody has it: it is extracted, or the row has no path there
+      free : parent (lentEntry rows col0) (m .activated) d ≡ nobody → Truth (hasPath rows col0 row d) → won (lentEntry rows col0) (m .activated) row (getD labels row 0) d ≡ false
+      free q (holds u) = let z : markAt w d ≡ 0 = rw q at (c .held .marked d l) in absurd (clash (simp (z, u) refl) t)
+      free q (fails u) = won-nowhere (lentEntry rows col0) (m .activated) row (getD labels row 0) d (no-path-is rows col0 row d u)
 
-  module _ (some : m .activated ≢ []) where
-    marked : mark (m .activated) ≡ 1
-    unfolding mark
-    marked = go (m .activated) refl
-      where
-        go : (xs : List Activation) → m .activated ≡ xs → mark xs ≡ 1
-        go [] q = absurd (some q)
-        go (a ∷ xs) q = refl
+      out : available (lentEntry rows col0) m d ≡ nobody → Truth (mem d (m .extracted)) → won (lentEntry rows col0) (m .activated) row (getD labels row 0) d ≡ false
+      out q (holds u) = extracted-lost (lentEntry rows col0) (length rows) cols m (sound-of (c .held)) row (getD labels row 0) d (c .high) u
+      out q (fails u) = free (simp u at q) (truth (hasPath rows col0 row d))
 
-    -- the code's test over the intervals is the model's over the columns
-    lost-at : (P : ℕ → Type 0) → ((k x : ℕ) → P x → k < countOf w → In w k x → wins w rows col0 labels row k x ≡ false)
-        → (x : ℕ) → x < cols → P x → won (lentEntry rows col0) (m .activated) row (getD labels row 0) x ≡ false
-    unfolding tag
-    lost-at P f x l p = go (where-is w rows col0 cols labels m (c .held) x l)
-      where
-        go : Where w (available (lentEntry rows col0) m x) x → won (lentEntry rows col0) (m .activated) row (getD labels row 0) x ≡ false
-        go (within k a i) = sym (wins-is w rows col0 cols labels m (c .held) row k x a i) ∙ f k x p a i
-        go (outside q) = won-outside (lentEntry rows col0) (length rows) cols m x l (sound-of (c .held)) row (getD labels row 0) some (c .high)
-            (lookup-available (lentEntry rows col0) (length rows) cols m x l ∙ ap tag q)
+      go : Where w (available (lentEntry rows col0) m d) d → won (lentEntry rows col0) (m .activated) row (getD labels row 0) d ≡ false
+      go (within k a i) = sym (wins-is w rows col0 cols labels m (c .held) row k d a i) ∙ f k a i
+      go (outside q) = out q (truth (mem d (m .extracted)))
 
-    module _ (lo hi first end : ℕ) (f : SearchLeaves w rows col0 labels row lo hi first end) where
-      pub activated-none : hi ≤ lo → RowActivated w rows col0 cols labels m next (answered 0 0 0)
-      activated-none l =
-          let all-lost : (x : ℕ) → x < cols → won (lentEntry rows col0) (m .activated) row (getD labels row 0) x ≡ false = λ x b. lost-at (λ _. Unit {0}) (λ k y _ a i. f .none l k y a i) x b tt in
-          let q = activate-none (lentEntry rows col0) cols m row (getD labels row 0) all-lost in
+  module _ (lo hi first end : ℕ) (f : SearchLeaves w rows col0 cols labels row lo hi first end) where
+    pub activated-none : end ≤ first → RowActivated w rows col0 cols labels m next (answered 0 0 0)
+    activated-none l =
+        let all-lost : (x : ℕ) → x < cols → won (lentEntry rows col0) (m .activated) row (getD labels row 0) x ≡ false = λ x b. lost-is x b (f .none l x b) in
+        let q = activate-none (lentEntry rows col0) cols m row (getD labels row 0) all-lost in
+        let r = reach-none w rows col0 cols row marks-counted 0 0 (λ d a b. absurd (omega arith)) .reaches in
+        let lost : (d : ℕ) → d < cols → (d < 0) ⊎ (0 ≤ d) → reachesFirst w rows col0 row d ≡ false = λ d b o. f .none l d b .1 in
+        record {
+          changed = becomes w w rows col0 cols labels m (c .held) next refl (marks-next w 0 0 r lost) (reached-next w 0 0 r lost) (c .held .listed ∙ sym q) next-labels next-reached
+              (laid w rows col0 cols labels m (c .held) .bests) 0 0 (rw q (sym (countNew-same (intervals (lentEntry rows col0) cols m)))) refl;
+          falls = record { none = λ _. activate-same (lentEntry rows col0) m row (getD labels row 0) cols all-lost; some = λ y. absurd (omega arith) };
+        }
+
+    module _ (l : first < end) where
+      wins-first : won (lentEntry rows col0) (m .activated) row (getD labels row 0) first ≡ true
+      wins-first = won-is first (omega (arith, f .inside l)) (f .at-first l)
+
+      wins-last : won (lentEntry rows col0) (m .activated) row (getD labels row 0) (end - 1) ≡ true
+      wins-last = won-is (end - 1) (omega (arith, f .inside l)) (f .at-last l)
+
+      at-ends : Range (won (lentEntry rows col0) (m .activated) row (getD labels row 0)) (isClosed (lentEntry rows col0) (length rows)) cols first end
+      at-ends =
+          let z : pred end ≡ end - 1 = omega arith in
+          range-of-ends (won (lentEntry rows col0) (m .activated) row (getD labels row 0)) (isClosed (lentEntry rows col0) (length rows)) cols first end
+          (won-between (lentEntry rows col0) (length rows) cols (c .held .checked .monge) (m .activated) (sound-of (c .held) .in-rows) row (getD labels row 0) (c .row-in)) l (f .inside l)
+          wins-first (rw z wins-last) (λ x a. lost-is x (omega (arith, f .inside l)) (f .lost l x (omega (arith, f .inside l)) (inl a))) (λ x a b. lost-is x b (f .lost l x b (inr a)))
+
+      edit : intervals (lentEntry rows col0) cols next ≡ before first (kept w) ++ (rowRuns rows col0 labels row first end ++ from end (kept w))
+      edit = rw (c .held .listed)
+          (activate-edit (lentEntry rows col0) (length rows) cols m (sound-of (c .held)) row (getD labels row 0) (c .row-in) (c .row-new) (c .high) first end at-ends l)
+
+      won-room : Room w lo hi first end (length (rowRuns rows col0 labels row first end))
+      unfolding intervals
+      won-room =
+          let n = cut-lengths w rows col0 labels (laid w rows col0 cols labels m (c .held)) lo hi first end (f .stretch l) in
+          let k : countAfter w lo hi first end (length (rowRuns rows col0 labels row first end)) ≤ cols =
+          omega (arith, n .0, n .1, simp length-append at (ap length edit), runs-length (available (lentEntry rows col0) next) 0 cols) in
           record {
-            changed = becomes w w rows col0 cols labels m (c .held) next refl (c .held .marked ∙ marked ∙ sym next-mark) (c .held .listed ∙ sym q) next-labels next-reached
-                (laid w rows col0 cols labels m (c .held) .bests) 0 0 (rw q (sym (countNew-same (intervals (lentEntry rows col0) cols m)))) refl;
-            falls = record { none = λ _. activate-same (lentEntry rows col0) m row (getD labels row 0) cols all-lost; some = λ y. absurd (omega arith) };
+            words = laid w rows col0 cols labels m (c .held) .words;
+            room = omega (arith, c .held .long);
+            small = omega (arith, c .held .checked .inside);
           }
 
-      module _ (l : lo < hi) where
-        at-ends : Range (won (lentEntry rows col0) (m .activated) row (getD labels row 0)) cols first end
-        at-ends =
-            let s = f .stretch l in
-            let low : In w lo first = (s .from-first, s .start) in
-            let high : In w (hi - 1) (end - 1) = (omega (arith, s .stop), omega (arith, s .to-last)) in
-            let n : hi - 1 < countOf w = omega (arith, s .inside) in
-            let r = run-at w rows col0 cols labels m (c .held) (hi - 1) n in
+      path-at : (x : ℕ) → won (lentEntry rows col0) (m .activated) row (getD labels row 0) x ≡ true → hasPath rows col0 row x ≡ true
+      path-at x t = path-from rows col0 row x (won-path (lentEntry rows col0) (m .activated) row (getD labels row 0) x t)
+
+      -- a column that is reached is not closed
+      not-closed : (x : ℕ) → isReached (parent (lentEntry rows col0) (m .activated) x) ≡ true → isClosed (lentEntry rows col0) (length rows) x ≡ false
+      unfolding isReached
+      not-closed x t = go (parent (lentEntry rows col0) (m .activated) x) refl (truth (isClosed (lentEntry rows col0) (length rows) x))
+        where
+          go : (y : Best) → parent (lentEntry rows col0) (m .activated) x ≡ y → Truth (isClosed (lentEntry rows col0) (length rows) x) → isClosed (lentEntry rows col0) (length rows) x ≡ false
+          go y q (fails u) = u
+          go nobody q (holds u) = absurd (clash t (rw q))
+          go (by p s) q (holds u) = absurd (parent-path (lentEntry rows col0) (m .activated) x p s q
+              (closed-at (lentEntry rows col0) (length rows) x u p (parent-row (lentEntry rows col0) (length rows) (m .activated) x p s (sound-of (c .held) .in-rows) q)))
+
+      pub won-needs : PutWonNeeds w rows col0 cols labels row lo hi first end
+      won-needs = record {
+        laid = laid w rows col0 cols labels m (c .held);
+        stretch = f .stretch l;
+        room = won-room;
+        reads = row-reads end (f .inside l);
+        at-first = path-at first wins-first;
+        at-last = path-at (end - 1) wins-last;
+        full = λ q x a b.
+            let all : cols ≤ count (λ d. isReached (parent (lentEntry rows col0) (m .activated) d)) cols = omega (arith, c .held .reached-are) in
+            path-at x (at-ends .within x a b (not-closed x (count-full _ cols all x (omega (arith, f .inside l)))));
+        lasts = within-cols w rows col0 cols labels m (c .held);
+        inside = f .inside l;
+        places = omega (arith, f .stretch l .inside, count-most w rows col0 cols labels m (c .held), c .held .checked .inside);
+      }
+
+      module _ (u v x : List ℕ) (mid rests number sum : ℕ) (k : Cleared w u rows col0 labels lo hi first end number mid rests) (p : PutRunsLeaves u v rows col0 labels row mid number first end sum)
+          (number-is : number ≡ length (rowRuns rows col0 labels row first end)) (r : ReachLeaves v x rows col0 cols row first end) where
+        -- each interval carries its best: those beside the gap, and those that fill it
+        some-bests : (j : ℕ) → j < countOf v → RowBest rows col0 labels (listedAt v j)
+        some-bests j b = ⊎-elim
+            (λ (a : j < mid). best-moves rows col0 labels _ _ (p .outside .same j (inl a)) (k .bests j (omega (arith, p .outside .counted)) (inl a)))
+            (λ (a : mid ≤ j). ⊎-elim
+            (λ (d : j < mid + number). p .bests j a d)
+            (λ (d : mid + number ≤ j). best-moves rows col0 labels _ _ (p .outside .same j (inr d)) (k .bests j (omega (arith, p .outside .counted)) (inr d)))
+            (split-at j (mid + number)))
+            (split-at j mid)
+
+        -- the marks of v are those of w
+        reaches-all : Reaches w x rows col0 cols row first end
+        reaches-all =
+            let same = marks-then (p .outside .marked) (k .marked) in
             record {
-              ordered = omega (arith, s .ordered);
-              inside = omega (arith, s .to-last, r .high);
-              within = λ x a b. won-between (lentEntry rows col0) (length rows) cols (all-pairs (c .held .checked)) (m .activated) (sound-of (c .held) .in-rows) row (getD labels row 0) (c .row-in)
-                  first x (end - 1) a (omega arith) (omega (arith, s .to-last, r .high))
-                  (sym (wins-is w rows col0 cols labels m (c .held) row lo first (omega (arith, s .inside)) low) ∙ f .won l lo first (omega (arith, s .inside)) low (le-refl first) (s .ordered))
-                  (sym (wins-is w rows col0 cols labels m (c .held) row (hi - 1) (end - 1) n high) ∙ f .won l (hi - 1) (end - 1) n high (omega (arith, s .ordered)) (omega (arith, s .ordered)));
-              before = λ x a. lost-at (λ (y : ℕ). y < first) (λ k y p b i. f .lost l k y b i (inl p)) x (omega (arith, s .ordered, s .to-last, r .high)) a;
-              after = λ x a b. lost-at (λ (y : ℕ). end ≤ y) (λ k y p d i. f .lost l k y d i (inr p)) x b a;
+              marks = r .reaches .marks;
+              inside = r .reaches .inside;
+              without = λ d t. r .reaches .without d t ∙ same .each d;
+              outside = λ d o. r .reaches .outside d o ∙ same .each d;
             }
 
-        edit : intervals (lentEntry rows col0) cols next ≡ before first (kept w) ++ (interval row first (end - 1) ∷ from end (kept w))
-        edit =
-            let z : end - 1 ≡ pred end = omega arith in
-            rw (c .held .listed, z) (activate-edit (lentEntry rows col0) (length rows) cols m (sound-of (c .held)) row (getD labels row 0) (c .row-new) (c .high) first end at-ends (f .stretch l .ordered))
+        some-becomes : Becomes x rows col0 cols labels m next (rests + number) (hi - lo)
+        some-becomes =
+            let g = laid w rows col0 cols labels m (c .held) in
+            let lost : (d : ℕ) → d < cols → (d < first) ⊎ (end ≤ d) → reachesFirst w rows col0 row d ≡ false = λ d b o. f .lost l d b o .1 in
+            let same : kept x ≡ kept v = unfold kept in ap (λ (n : ℕ). span x 0 n) (r .counted) ∙ span-same x v 0 0 (countOf v) (λ j b. simp zero-add (r .same j)) in
+            let listed : kept x ≡ intervals (lentEntry rows col0) cols next =
+            same ∙ clear-kept w rows col0 labels g lo hi first end (f .stretch l) u number mid rests k v (p .outside) ∙ rw (p .here) (sym edit) in
+            becomes w x rows col0 cols labels m (c .held) next (r .long ∙ p .outside .long ∙ k .long) (marks-next x first end reaches-all lost) (reached-next x first end reaches-all lost) listed next-labels next-reached
+            (λ j b. best-moves rows col0 labels _ _ (r .same j) (some-bests j (omega (arith, r .counted)))) (rests + number) (hi - lo)
+            (omega (
+              arith,
+              clear-trims w rows col0 labels g lo hi first end (f .stretch l) u number mid rests k,
+              ap (cutAt first) (c .held .listed),
+              ap (cutAt end) (c .held .listed),
+              number-is,
+              activate-inserted (lentEntry rows col0) (length rows) cols m (sound-of (c .held)) row (getD labels row 0) (c .row-in) (c .row-new) (c .high) first end at-ends l,
+            ))
+            (omega (arith, r .counted, p .outside .counted, k .counted, k .number, f .stretch l .inside, f .stretch l .places))
 
-        won-room : Room w lo hi first end 1
-        unfolding intervals
-        won-room =
-            let n = cut-lengths w rows col0 labels (laid w rows col0 cols labels m (c .held)) lo hi first end (f .stretch l) in
-            let k : countAfter w lo hi first end 1 ≤ cols =
-            omega (arith, n .0, n .1, simp length-append at (ap length edit), runs-length (available (lentEntry rows col0) next) 0 cols) in
+        -- the least of the new sums is the least sum of the columns won
+        some-falls : Falls (leastLeft (lentEntry rows col0) cols m) (leastLeft (lentEntry rows col0) cols next) (rests + number) sum
+        some-falls =
+            let b = p .least in
+            let q : leastFrom (available (lentEntry rows col0) next) first (end - first) ≡ by (b .0) sum =
+            leastFrom-same _ _ first (end - first) (λ d a n. activate-range (lentEntry rows col0) (length rows) cols m (sound-of (c .held)) row (getD labels row 0) (c .row-in) (c .row-new) (c .high) first end at-ends d a (omega arith)) ∙ b .1 in
+            let best = least-lowest (available (lentEntry rows col0) next) first (end - first) (b .0) sum q in
             record {
-              words = laid w rows col0 cols labels m (c .held) .words;
-              room = omega (arith, c .held .long);
-              small = omega (arith, c .held .checked .inside);
+              none = λ y. absurd (omega (arith, number-is, some-run rows col0 labels row first end l (path-at first wins-first)));
+              some = λ _. (b .0, activate-lowers (lentEntry rows col0) m row (getD labels row 0) cols first end at-ends (b .0) sum best);
             }
 
-        pub won-needs : PutWonNeeds w rows col0 labels row lo hi first end
-        won-needs =
-            let s = f .stretch l in
-            let r = run-at w rows col0 cols labels m (c .held) (hi - 1) (omega (arith, s .inside)) in
-            record {
-              laid = laid w rows col0 cols labels m (c .held);
-              stretch = s;
-              room = won-room;
-              row-fits = row-fits first end (omega (arith, s .to-last, r .high));
-              places = omega (arith, s .inside, count-most w rows col0 cols labels m (c .held), c .held .checked .inside);
-            }
+      pub activated-some : (v x : List ℕ) (r : Activated) → PutWonLeaves w v rows col0 labels row lo hi first end r → ReachLeaves v x rows col0 cols row first end → RowActivated x rows col0 cols labels m next r
+      activated-some v x r y z = record {
+        changed = rw (y .inserted-is, y .removed-is) (some-becomes (y .between) v x (y .mid) (y .rests) (y .number) (r .sum) (y .cleared) (y .put) (y .number-is) z);
+        falls = rw (y .inserted-is) (some-falls (y .between) v x (y .mid) (y .rests) (y .number) (r .sum) (y .cleared) (y .put) (y .number-is) z);
+      }
 
-        module _ (u v : List ℕ) (mid rests : ℕ) (k : Cleared w u rows col0 labels lo hi first end 1 mid rests) (p : PutLeaves u v mid (drawn rows col0 labels row first end)) where
-          -- each interval carries its best: those beside the gap, and the one that fills it
-          some-bests : (j : ℕ) → j < countOf v → RowBest rows col0 labels (listedAt v j)
-          some-bests j b = ⊎-elim
-              (λ (a : j < mid). best-moves rows col0 labels _ _ (p .outside .same j (inl a)) (k .bests j (omega (arith, p .outside .counted)) (inl a)))
-              (λ (a : mid ≤ j). ⊎-elim
-              (λ (d : mid < j). best-moves rows col0 labels _ _ (p .outside .same j (inr (omega arith))) (k .bests j (omega (arith, p .outside .counted)) (inr (omega arith))))
-              (λ (d : j ≤ mid). let z : j ≡ mid = omega arith in best-moves rows col0 labels _ _ (ap (listedAt v) z ∙ p .here) (drawn-best rows col0 labels row first end (f .stretch l .ordered)))
-              (split-at mid j))
-              (split-at j mid)
+  -- ---- all columns at once
 
-          some-becomes : Becomes v rows col0 cols labels m next (rests + 1) (hi - lo)
-          some-becomes =
-              let g = laid w rows col0 cols labels m (c .held) in
-              let listed : kept v ≡ intervals (lentEntry rows col0) cols next =
-              clear-kept w rows col0 labels g lo hi first end (f .stretch l) u 1 mid rests k v (p .outside) ∙ rw (span-put u v mid (drawn rows col0 labels row first end) p) (sym edit) in
-              becomes w v rows col0 cols labels m (c .held) next (p .outside .long ∙ k .long) (p .outside .marked ∙ k .marked ∙ c .held .marked ∙ marked ∙ sym next-mark) listed next-labels next-reached
-              some-bests (rests + 1) (hi - lo)
-              (omega (
-                arith,
-                clear-trims w rows col0 labels g lo hi first end (f .stretch l) u 1 mid rests k,
-                ap (cutAt first) (c .held .listed),
-                ap (cutAt end) (c .held .listed),
-                activate-inserted (lentEntry rows col0) (length rows) cols m (sound-of (c .held)) row (getD labels row 0) (c .row-new) (c .high) first end at-ends (f .stretch l .ordered),
-              ))
-              (omega (arith, p .outside .counted, k .counted, k .number, f .stretch l .inside))
+  module _ (all : WinsAll w rows col0 cols row) where
+    -- no column has a parent, so there is no interval
+    nobody-yet : (d : ℕ) → d < cols → isReached (parent (lentEntry rows col0) (m .activated) d) ≡ false
+    nobody-yet d l = go (truth (isReached (parent (lentEntry rows col0) (m .activated) d)))
+      where
+        go : Truth (isReached (parent (lentEntry rows col0) (m .activated) d)) → isReached (parent (lentEntry rows col0) (m .activated) d) ≡ false
+        go (fails t) = t
+        go (holds t) = absurd (omega (arith, count-some (λ k. isReached (parent (lentEntry rows col0) (m .activated) k)) cols d l t, c .held .reached-are, all .fresh))
 
-          -- the best of the new interval is the least sum of the columns won
-          some-falls : (n : ℕ) → Falls (leastLeft (lentEntry rows col0) cols m) (leastLeft (lentEntry rows col0) cols next) (suc n) (bestSumAt v mid)
-          some-falls n =
-              let a : mid < countOf v = omega (arith, p .outside .counted, k .counted, k .place) in
-              let z : suc (end - 1) - first ≡ end - first = omega (arith, f .stretch l .ordered) in
-              let q : leastFrom (available (lentEntry rows col0) next) first (end - first) ≡ bestAt v mid =
-              rw (← z) (ap (bestIn (lentEntry rows col0) next) (sym (ap (λ (x : Listed). x .interval) (p .here))) ∙ sym (some-becomes .held .bests mid a)) in
-              let best = least-lowest (available (lentEntry rows col0) next) first (end - first) (bestColumnAt v mid) (bestSumAt v mid) q in
-              record {
-                none = λ y. absurd (omega arith);
-                some = λ _. (bestColumnAt v mid, activate-lowers (lentEntry rows col0) m row (getD labels row 0) cols first end at-ends (bestColumnAt v mid) (bestSumAt v mid) best);
-              }
+    no-interval : countOf w ≡ 0
+    unfolding intervals available isReached
+    no-interval = sym (length-kept w) ∙ ap length (c .held .listed ∙ runs-none (available (lentEntry rows col0) m) 0 cols (λ d a b. go d (nobody-yet d (omega arith)) (truth (mem d (m .extracted)))))
+      where
+        none : (x : Best) → isReached x ≡ false → x ≡ nobody
+        none nobody t = refl
+        none (by p s) t = absurd (clash refl t)
 
-        pub activated-some : (v : List ℕ) (r : Activated) → PutWonLeaves w v rows col0 labels row lo hi first end r → RowActivated v rows col0 cols labels m next r
-        activated-some v r x =
-            let q : r .inserted ≡ suc (x .rests) = omega (arith, x .inserted-is) in
-            record {
-              changed = rw (x .inserted-is, x .removed-is) (some-becomes (x .between) v (x .mid) (x .rests) (x .cleared) (x .put));
-              falls = rw (q, x .sum-is) (some-falls (x .between) v (x .mid) (x .rests) (x .cleared) (x .put) (x .rests));
-            }
+        go : (d : ℕ) → isReached (parent (lentEntry rows col0) (m .activated) d) ≡ false → Truth (mem d (m .extracted)) → available (lentEntry rows col0) m d ≡ nobody
+        go d t (holds u) = simp u
+        go d t (fails u) = simp u (none (parent (lentEntry rows col0) (m .activated) d) t)
+
+    first-of : (d : ℕ) → d < cols → reachesFirst w rows col0 row d ≡ true
+    unfolding reachesFirst
+    first-of d l = let q : markAt w d ≡ 0 = simp (nobody-yet d l) at (c .held .marked d l) in rw (q, all .paths d l)
+
+    pub all-fits : (heapWords cols ≤ length w) × (0 < cols) × StretchFits rows col0 labels row 0 cols
+    all-fits = (c .held .long, c .held .checked .some, stretch-fits rows col0 labels row cols (row-reads cols (le-refl cols)) 0 cols (le-refl cols) (λ d a b. all .paths d b))
+
+    all-found : SearchLeaves w rows col0 cols labels row 0 0 0 cols
+    all-found =
+        let some = c .held .checked .some in
+        record {
+          none = λ l. absurd (omega arith);
+          stretch = λ _. record {
+            places = le-refl 0;
+            inside = omega arith;
+            ordered = some;
+            below = λ k l. absurd (omega arith);
+            above = λ k l n. absurd (omega (arith, no-interval));
+            start = λ l. absurd (omega arith);
+            stop = λ l. absurd (omega arith);
+          };
+          inside = λ _. le-refl cols;
+          at-first = λ _. as-first (first-of 0 some);
+          at-last = λ _. as-first (first-of (cols - 1) (omega arith));
+          lost = λ _ d l o. ⊎-elim (λ (a : d < 0). absurd (omega arith)) (λ (a : cols ≤ d). absurd (omega arith)) o;
+        }
+
+    module _ (v : List ℕ) (p : PutLeaves (set w countWord 1) v 0 (drawn rows col0 labels row 0 cols)) where
+      one : 1 ≡ length (rowRuns rows col0 labels row 0 cols)
+      one = sym (full-run rows col0 labels row 0 cols (c .held .checked .some) (λ d a b. all .paths d b))
+
+      all-cleared : Cleared w (set w countWord 1) rows col0 labels 0 0 0 cols 1 0 0
+      unfolding leftOf rightOf rest restLen span countOf reachedOf
+      all-cleared = record {
+        long = length-set w countWord 1;
+        marked = record {
+          number = let z : reachedWord ≢ countWord = omega arith in getD-set-other w countWord reachedWord 1 0 z;
+          each = λ d. head-mark w countWord 1 d (omega arith);
+        };
+        counted = getD-set-same w countWord 1 0 (omega (arith, c .held .long)) ∙ omega (arith, no-interval);
+        place = refl;
+        number = refl;
+        left = refl;
+        right =
+            let z : countOf (set w countWord 1) - 1 ≡ 0 = omega (arith, getD-set-same w countWord 1 0 (omega (arith, c .held .long))) in
+            let y : countOf w - 0 ≡ 0 = omega (arith, no-interval) in
+            rw (z, y);
+        bests = λ k l o. absurd (⊎-elim (λ (a : k < 0). omega arith) (λ (a : 1 ≤ k). omega (arith, getD-set-same w countWord 1 0 (omega (arith, c .held .long)))) o);
+      }
+
+      all-put : bestSumAt v 0 < wordEnd → PutRunsLeaves (set w countWord 1) v rows col0 labels row 0 1 0 cols (bestSumAt v 0)
+      all-put small =
+          let some = c .held .checked .some in
+          runs-done (set w countWord 1) rows col0 labels row 0 1 0 cols one (set w countWord 1) 0 0 unreached
+          (runs-begin (set w countWord 1) rows col0 labels row 0 1 0 cols some (all .paths 0 some) one (omega arith)) v (bestSumAt v 0) (le-refl 1) (all .paths (cols - 1) (omega arith))
+          (record { put = p; small = small; least = go (order (bestSumAt v 0) unreached) })
+        where
+          go : Order (bestSumAt v 0) unreached → bestSumAt v 0 ≡ cond (below (bestSumAt v 0) unreached) (bestSumAt v 0) unreached
+          go (less t _) = simp t
+          go (more t l) = simp t (omega arith)
+
+    pub activated-all : (x : List ℕ) (s : ℕ) → PutAllLeaves w x rows col0 labels row cols → Word (bestSumAt x 0) s → RowActivated x rows col0 cols labels m next (answered 1 0 s)
+    unfolding bestSumAt
+    activated-all x s y q =
+        let v = y .between in
+        let same : bestSumAt v 0 ≡ bestSumAt x 0 = sym (ap (λ (u : Listed). sumOf (u .best)) (y .marked .keeps .same 0)) in
+        let long : length v ≡ length w = y .put .outside .long ∙ length-set w countWord 1 in
+        let put = rw (same, ← q .is) at (all-put v (y .put) (omega (arith, same, q .is, q .fits))) in
+        activated-some 0 0 0 cols all-found (c .held .checked .some) v x (answered 1 0 s)
+        (record { between = set w countWord 1; mid = 0; rests = 0; number = 1; cleared = all-cleared v (y .put); put = put; number-is = one v (y .put); inserted-is = refl; removed-is = refl })
+        (reach-all v x rows col0 cols row (omega (arith, long, c .held .long)) (omega (arith, c .held .checked .inside)) (all .paths) (y .marked))
+      where
+        sumOf : Best → ℕ
+        sumOf nobody = 0
+        sumOf (by k t) = t
 
 -- ---- an extraction
 
@@ -392,17 +553,12 @@ module _ (w : List ℕ) (rows : List (List ℕ)) (col0 cols : ℕ) (labels : Lis
   extracted-none g =
       let q : nobody ≡ leastFrom (available (lentEntry rows col0) m) 0 cols = least-is-left w rows col0 cols labels m h lowest.Nothing g in
       record {
-        changed = rw (← q) (becomes w w rows col0 cols labels m h m refl (h .marked) (h .listed) (h .labels-at) (h .reached) (laid w rows col0 cols labels m h .bests) 0 0 (sym (countNew-same (intervals (lentEntry rows col0) cols m))) refl);
+        changed = rw (← q) (becomes w w rows col0 cols labels m h m refl (h .marked) (h .reached-are) (h .listed) (h .labels-at) (h .reached) (laid w rows col0 cols labels m h .bests) 0 0 (sym (countNew-same (intervals (lentEntry rows col0) cols m))) refl);
         answer-is = rw (← q);
         parent-is = refl;
       }
 
   module _ (k c : ℕ) (l : k < countOf w) (i : In w k c) where
-    extracted-stretch : Meets w k (k + 1) c (c + 1)
-    extracted-stretch =
-        let z : k + 1 - 1 ≡ k = omega arith in
-        record { some = omega arith; inside = omega arith; from-first = i .0; start = i .1; ordered = omega arith; stop = rw z (omega arith); to-last = rw z (omega arith) }
-
     pub extracted-inside : (k < rowPlaces) × (c < rowPlaces)
     extracted-inside = (omega (arith, count-most w rows col0 cols labels m h, h .checked .inside), omega (arith, run-at w rows col0 cols labels m h k l .high, h .checked .inside))
 
@@ -412,15 +568,24 @@ module _ (w : List ℕ) (rows : List (List ℕ)) (col0 cols : ℕ) (labels : Lis
           let z : c + 1 ≡ suc c = omega arith in
           rw (h .listed, z) (extract-edit (lentEntry rows col0) cols m c s (omega (arith, run-at w rows col0 cols labels m h k l .high)))
 
-      extracted-room : Room w k (k + 1) c (c + 1) 0
+      few : cutCount w k c ≤ cols
       unfolding intervals
-      extracted-room =
-          let n = cut-lengths w rows col0 labels (laid w rows col0 cols labels m h) k (k + 1) c (c + 1) extracted-stretch in
-          let x : countAfter w k (k + 1) c (c + 1) 0 ≤ cols = omega (arith, n .0, n .1, simp length-append at (ap length gone), runs-length (available (lentEntry rows col0) (extract m (by c s))) 0 cols) in
-          record { words = laid w rows col0 cols labels m h .words; room = omega (arith, h .long); small = omega (arith, h .checked .inside) }
+      few = omega (
+        arith,
+        cut-count w rows col0 labels (laid w rows col0 cols labels m h) k c l (i .0) (i .1),
+        ap length gone,
+        runs-length (available (lentEntry rows col0) (extract m (by c s))) 0 cols,
+      )
 
       pub extracted-needs : CutNeeds w rows col0 labels k c
-      extracted-needs = record { laid = laid w rows col0 cols labels m h; inside = l; low = i .0; high = i .1; room = extracted-room }
+      extracted-needs = record {
+        laid = laid w rows col0 cols labels m h;
+        inside = l;
+        low = i .0;
+        high = i .1;
+        room = omega (arith, few, h .long);
+        small = omega (arith, few, h .checked .inside);
+      }
 
       pub extracted-some : LeastLeaves w (At k c s) → (u : List ℕ) (rests p : ℕ) → CutLeaves w u rows col0 labels k c rests → p ≡ parentAt w k
           → MinExtracted u rows col0 cols labels m (Column c s) rests p
@@ -436,7 +601,7 @@ module _ (w : List ℕ) (rows : List (List ℕ)) (col0 cols : ℕ) (labels : Lis
           let trims : rests ≡ cutAt c (intervals (lentEntry rows col0) cols m) + cutAt (suc c) (intervals (lentEntry rows col0) cols m) =
           rw (← h .listed, ← z) (cut-trims w rows col0 labels e k c l (i .0) (i .1) u rests x) in
           record {
-            changed = rw (← q) (becomes w u rows col0 cols labels m h (extract m (by c s)) (x .long) (x .marked ∙ h .marked) listed (h .labels-at) reached (x .bests) rests 1
+            changed = rw (← q) (becomes w u rows col0 cols labels m h (extract m (by c s)) (x .long) (λ d a. x .marked .each d ∙ h .marked d a) (x .marked .number ∙ h .reached-are) listed (h .labels-at) reached (x .bests) rests 1
                 (trims ∙ sym (extract-inserted (lentEntry rows col0) cols m c s (omega (arith, run-at w rows col0 cols labels m h k l .high)))) (omega (arith, x .counted)));
             answer-is = rw (← q);
             parent-is = (rw (o .1) (sym parent), omega (arith, o .2 .row-in));

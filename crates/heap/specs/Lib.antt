@@ -13,10 +13,12 @@
 pub mod Strides
 pub mod WordLaws
 pub mod RowBest
+pub mod RowRuns
 pub mod Laid
 pub mod Clear
 pub mod Bisect
 pub mod Search
+pub mod Reaching
 pub mod Holds
 pub mod Cuts
 pub mod LeastColumn

@@ -13,6 +13,7 @@ use native.Mathlib.Nat.{le-refl}
 use native.Mathlib.Omega.{arith}
 use lib.ListN.{length, getD}
 use Rattle.definitions.specs.Limits.{rowPlaces, sum}
+use Rattle.definitions.specs.Metres.{IsNumber}
 use Rattle.definitions.specs.Best.{Best, nobody, by, leastFrom}
 use Rattle.definitions.specs.Intervals.{Interval, interval, firstColumn, lastColumn}
 use Rattle.definitions.specs.Model.{Listed}
@@ -80,12 +81,13 @@ best-is-row rows col0 labels p first n r h = go (leastFrom (rowSums rows col0 la
 
 -- ---- intervals
 
--- the columns `first` up to, not including, `end` of row p can be read, and their sums fit a word
+-- the columns `first` up to, not including, `end` of row p can be read, the row has a path at each, and their sums fit a word
 pub record StretchFits (rows : List (List ℕ)) (col0 : ℕ) (labels : List ℕ) (p first end : ℕ) : Type 0 where
   pub row-in : p < length rows
   pub labelled : length rows ≤ length labels
   pub small : p < wordEnd
   pub columns : col0 + end ≤ rowPlaces
+  pub paths : (c : ℕ) → first ≤ c → c < end → IsNumber (lentEntry rows col0 p c)
   pub fits : (c : ℕ) → first ≤ c → c < end → sumAt rows col0 labels p c < wordEnd
 
 -- the index that a best is asked of: that of these rows' columns from col0 on

@@ -1,8 +1,9 @@
 -- Laws of the words of a heap, what is read from them and written to them.
 --   wordEnd Word                              what a reader returns
 --   span-.. length-span                       the intervals that the words hold
+--   Marks marks-same marks-then               words that agree in what columns are reached
 --   Outside                                   words that agree but for some intervals
---   interval-same numbers-.. head-set         an interval is read from its own words, which are its numbers
+--   interval-same numbers-.. head-set head-mark    an interval is read from its own words, which are its numbers
 --   told PutLeaves put-done                   one interval is written
 --   ShiftLeaves ShiftKeeps moving-.. shifted  intervals are moved to other places, one by one
 use mathlib.Core.Path.{_≡_, refl, ap, _∙_}
@@ -13,13 +14,13 @@ use native.Mathlib.Nat.{zero-add, add-zero}
 use native.Mathlib.Omega.{arith}
 use lib.ListN.{length, getD, set}
 use lib.Seq.{getD-set-other, sets, length-sets}
-use Rattle.definitions.specs.HeapWords.{countOf, markOf, parentAt, firstAt, lastAt, bestColumnAt, bestSumAt, intervalAt, span, listedAt, countWord, markWord, headWords, parentWord, firstWord, lastWord, bestColumnWord, bestSumWord, intervalWords, intervalStart, heapWords}
+use Rattle.definitions.specs.HeapWords.{countOf, reachedOf, markAt, parentAt, firstAt, lastAt, bestColumnAt, bestSumAt, intervalAt, span, listedAt, countWord, reachedWord, headWords, parentWord, firstWord, lastWord, bestColumnWord, bestSumWord, intervalWords, markWord, placeWords, intervalStart, heapWords}
 use Rattle.definitions.specs.Best.{by}
 use Rattle.definitions.specs.Intervals.{interval}
 use Rattle.definitions.specs.Model.{Listed}
 use Rattle.definitions.specs.Entries.{intervalNumbers}
 use Rattle.logic.specs.Tests.{split-at, Equal, equal, differ, equality}
-use Rattle.heap.specs.Strides.{sets-before, stored-here, stored-other}
+use Rattle.heap.specs.Strides.{sets-before, stored-here, stored-other, stored-behind}
 use Rattle.heap.specs.declared.Interval as declared
 
 -- one past the greatest word
@@ -62,11 +63,22 @@ length-span w i (suc n) = ap suc (length-span w (suc i) n)
 
 -- ---- writing
 
+-- u says of the columns that are reached what w says
+pub record Marks (u w : List ℕ) : Type 0 where
+  pub number : reachedOf u ≡ reachedOf w
+  pub each : (c : ℕ) → markAt u c ≡ markAt w c
+
+pub marks-same : (w : List ℕ) → Marks w w
+marks-same w = record { number = refl; each = λ c. refl }
+
+pub marks-then : {w u v : List ℕ} → Marks v u → Marks u w → Marks v w
+marks-then a b = record { number = a .number ∙ b .number; each = λ c. a .each c ∙ b .each c }
+
 -- u is w but for the intervals at the places i up to, not including, j
 pub record Outside (w u : List ℕ) (i j : ℕ) : Type 0 where
   pub long : length u ≡ length w
   pub counted : countOf u ≡ countOf w
-  pub marked : markOf u ≡ markOf w
+  pub marked : Marks u w
   pub same : (k : ℕ) → (k < i) ⊎ (j ≤ k) → listedAt u k ≡ listedAt w k
 
 -- the interval v is written at place i
@@ -94,15 +106,18 @@ numbers-long w k = refl
 
 -- they are written
 pub put-done : (w : List ℕ) (k : ℕ) (v : declared.Interval) → heapWords (k + 1) ≤ length w → PutLeaves w (sets w (intervalStart k) (intervalNumbers (told v))) k (told v)
-unfolding countOf markOf
+unfolding countOf reachedOf markAt
 put-done w k v h = record {
   outside = record {
     long = length-sets w (intervalStart k) (intervalNumbers (told v));
     counted = sets-before w (intervalNumbers (told v)) (intervalStart k) countWord (omega arith);
-    marked = sets-before w (intervalNumbers (told v)) (intervalStart k) markWord (omega arith);
-    same = λ j o. interval-same _ w j j (λ i l. stored-other headWords intervalWords w (intervalNumbers (told v)) k refl j i (apart j o) l);
+    marked = record {
+      number = sets-before w (intervalNumbers (told v)) (intervalStart k) reachedWord (omega arith);
+      each = λ c. stored-behind headWords placeWords w (intervalNumbers (told v)) k (omega arith) c markWord (omega arith) (omega arith);
+    };
+    same = λ j o. interval-same _ w j j (λ i l. stored-other headWords placeWords w (intervalNumbers (told v)) k (omega arith) j i (apart j o) (omega arith));
   };
-  here = numbers-read _ k v (λ i l. stored-here headWords intervalWords w (intervalNumbers (told v)) k refl i l (omega arith));
+  here = numbers-read _ k v (λ i l. stored-here headWords placeWords w (intervalNumbers (told v)) k (omega arith) i l (omega arith));
 }
   where
     apart : (j : ℕ) → (j < k) ⊎ (k + 1 ≤ j) → (j < k) ⊎ (k < j)
@@ -115,13 +130,18 @@ head-set w a v k h = interval-same (set w a v) w k k (λ i l.
     let n : intervalStart k + i ≢ a = omega arith in
     getD-set-other w a (intervalStart k + i) v 0 n)
 
+-- and no column's mark
+pub head-mark : (w : List ℕ) (a v c : ℕ) → a < headWords → markAt (set w a v) c ≡ markAt w c
+unfolding markAt
+head-mark w a v c h = let n : intervalStart c + markWord ≢ a = omega arith in getD-set-other w a (intervalStart c + markWord) v 0 n
+
 -- ---- moving a tail
 
 -- the intervals `start` to n now lie from place `to` on; those below both places are untouched
 pub record ShiftLeaves (w u : List ℕ) (start to n : ℕ) : Type 0 where
   pub long : length u ≡ length w
   pub counted : countOf u ≡ countOf w
-  pub marked : markOf u ≡ markOf w
+  pub marked : Marks u w
   pub low : (k : ℕ) → k < start → k < to → listedAt u k ≡ listedAt w k
   pub high : (k : ℕ) → start ≤ k → k < n → listedAt u (to + (k - start)) ≡ listedAt w k
 
@@ -131,7 +151,7 @@ pub record ShiftKeeps (w u : List ℕ) (start to n a b : ℕ) : Type 0 where
   pub to-end : b ≤ n
   pub long : length u ≡ length w
   pub counted : countOf u ≡ countOf w
-  pub marked : markOf u ≡ markOf w
+  pub marked : Marks u w
   pub low : (k : ℕ) → k < start → k < to → listedAt u k ≡ listedAt w k
   pub done : (k : ℕ) → start ≤ k → k < n → (k < a) ⊎ (b ≤ k) → listedAt u (to + (k - start)) ≡ listedAt w k
   pub rest : (k : ℕ) → a ≤ k → k < b → listedAt u k ≡ listedAt w k
@@ -143,7 +163,7 @@ module _ (w : List ℕ) (start to n : ℕ) where
     to-end = omega arith;
     long = refl;
     counted = refl;
-    marked = refl;
+    marked = marks-same w;
     low = λ k a b. refl;
     done = λ k a b o. absurd (⊎-elim (λ (l : k < start). omega arith) (λ (l : n ≤ k). omega arith) o);
     rest = λ k a b. refl;
@@ -167,7 +187,7 @@ module _ (w : List ℕ) (start to n : ℕ) where
     to-end = omega (arith, m .to-end);
     long = p .outside .long ∙ m .long;
     counted = p .outside .counted ∙ m .counted;
-    marked = p .outside .marked ∙ m .marked;
+    marked = marks-then (p .outside .marked) (m .marked);
     low = λ k x y. p .outside .same k (inl (omega arith)) ∙ m .low k x y;
     done = λ k x y o. moved k x y o (equality k i);
     rest = λ k x y. p .outside .same k (aside k (free k x y)) ∙ m .rest k (omega arith) (omega arith);

@@ -1,22 +1,27 @@
-// The interval heap of one block, in words that the caller lends: how many intervals there are, whether a row is activated, then the intervals,
-// packed from the front by rising column. `preparation::HeapWords` says which word is which.
+// The interval heap of one block, in words that the caller lends: how many intervals there are, how many columns are reached, then the intervals,
+// packed from the front by rising column, with the mark of a column behind each. `preparation::HeapWords` says which word is which.
 ghost use mathlib.Core.Path.{_≡_};
 ghost use mathlib.Core.Bool.{true, false};
-ghost use Prim.Native.Nat.{_+_, _-_, _≤_, _<_};
+ghost use mathlib.Core.List.{List};
+ghost use Prim.Native.Nat.{ℕ, _+_, _-_, _≤_, _<_};
+ghost use lib.Dec.{ltb};
 ghost use lib.ListN.{length, replicate};
 ghost use Rattle.definitions.specs.Limits.{rowPlaces};
-ghost use Rattle.definitions.specs.HeapWords.{headWords, heapWords, countOf, markOf, parentAt, firstAt, lastAt, bestColumnAt, bestSumAt, listedAt};
+ghost use Rattle.definitions.specs.Metres.{IsNumber};
+ghost use Rattle.definitions.specs.HeapWords.{headWords, heapWords, countOf, reachedOf, markAt, parentAt, firstAt, lastAt, bestColumnAt, bestSumAt, listedAt};
 ghost use Rattle.definitions.specs.Model.{Model};
 ghost use Rattle.definitions.specs.Index.{IsLeast};
 ghost use Rattle.definitions.specs.HeldModel.{lentEntry, Holds};
 ghost use Rattle.heap.specs.WordLaws.{wordEnd, Word, told, PutLeaves, ShiftLeaves};
-ghost use Rattle.heap.specs.Clear.{restLen, PutRestLeaves, MakeRoomNeeds, MakeRoomLeaves, CutNeeds, CutLeaves};
+ghost use Rattle.heap.specs.Clear.{restLen, leftOf, rightOf, PutRestLeaves, MakeRoomNeeds, MakeRoomLeaves, CutNeeds, CutLeaves};
 ghost use Rattle.heap.specs.Bisect.{Between};
 ghost use Rattle.heap.specs.RowBest.{sumAt, StretchFits, HasIndex, drawn};
+ghost use Rattle.heap.specs.RowRuns.{hasPath, TurnsAt, rowRuns, PutRunLeaves, PutRunsNeeds, PutRunsLeaves};
 ghost use Rattle.heap.specs.Laid.{In};
-ghost use Rattle.heap.specs.Search.{test, Asked, answer, FirstYesNeeds, Climbs, SearchNeeds, TurnLeaves, EndOfLeaves, WinsBeside, SearchLeaves};
+ghost use Rattle.heap.specs.Search.{IsBelowNeeds, isBelow, test, Asked, answer, FirstYesNeeds, Climbs, SearchNeeds, TurnLeaves, EndOfLeaves, WinsBeside, reachesFirst, FirstIn, LastIn, gapFrom, gapTo, GapNeeds, GapLeaves, startOf, stopOf, SearchLeaves};
+ghost use Rattle.heap.specs.Reaching.{Counted, ReachLeaves, MarkAllLeaves, WinsAll};
 ghost use Rattle.heap.specs.LeastColumn.{LeastLeaves};
-ghost use Rattle.heap.specs.HeapCalls.{ActivateNeeds, ActivateLeaves, PutFirstLeaves, PutWonNeeds, PutWonLeaves, ExtractMinLeaves};
+ghost use Rattle.heap.specs.HeapCalls.{ActivateNeeds, ActivateLeaves, PutAllLeaves, PutWonNeeds, PutWonLeaves, ExtractMinLeaves};
 use bounds::Network;
 use buffers::fill;
 use definitions::Extraction;
@@ -36,7 +41,7 @@ pub struct MongeHeap;
 
 impl MongeHeap {
     // How many words the heap of the widest block takes.
-    const WORDS: usize = HeapWords::HEAD + HeapWords::INTERVAL * Network::ROW_PLACES;
+    const WORDS: usize = HeapWords::HEAD + HeapWords::PLACE * Network::ROW_PLACES;
 
     // The lent words become those of fresh heaps, wherever a heap begins in them: no row is activated, and no interval is kept.
     pub fn make_fresh(heaps: &mut [u32])
@@ -62,12 +67,20 @@ impl MongeHeap {
         heap[HeapWords::COUNT] as usize
     }
 
-    // 1 if a row is activated, else 0.
-    fn mark(heap: &[u32]) -> usize
+    // How many columns are reached: an activated row has a path there.
+    fn reached(heap: &[u32]) -> usize
         requires { ⌜ headWords ≤ length (now heap) ⌝ }
-        ensures { λ r. ⌜ Word (markOf (now (heap .entry))) r ⌝ }
+        ensures { λ r. ⌜ Word (reachedOf (now (heap .entry))) r ⌝ }
     {
-        heap[HeapWords::MARK] as usize
+        heap[HeapWords::REACHED] as usize
+    }
+
+    // 1 if the column is reached, else 0.
+    fn mark(heap: &[u32], column: usize) -> u32
+        requires { ⌜ heapWords (column + 1) ≤ length (now heap) ⌝ }
+        ensures { λ r. ⌜ Word (markAt (now (heap .entry)) column) r ⌝ }
+    {
+        heap[HeapWords::HEAD + HeapWords::PLACE * column + HeapWords::MARK]
     }
 
     // The parent of the interval at place k.
@@ -75,7 +88,7 @@ impl MongeHeap {
         requires { ⌜ heapWords (k + 1) ≤ length (now heap) ⌝ }
         ensures { λ r. ⌜ Word (parentAt (now (heap .entry)) k) r ⌝ }
     {
-        heap[HeapWords::HEAD + HeapWords::INTERVAL * k + HeapWords::PARENT] as usize
+        heap[HeapWords::HEAD + HeapWords::PLACE * k + HeapWords::PARENT] as usize
     }
 
     // Its first column.
@@ -83,7 +96,7 @@ impl MongeHeap {
         requires { ⌜ heapWords (k + 1) ≤ length (now heap) ⌝ }
         ensures { λ r. ⌜ Word (firstAt (now (heap .entry)) k) r ⌝ }
     {
-        heap[HeapWords::HEAD + HeapWords::INTERVAL * k + HeapWords::FIRST] as usize
+        heap[HeapWords::HEAD + HeapWords::PLACE * k + HeapWords::FIRST] as usize
     }
 
     // Its last column.
@@ -91,7 +104,7 @@ impl MongeHeap {
         requires { ⌜ heapWords (k + 1) ≤ length (now heap) ⌝ }
         ensures { λ r. ⌜ Word (lastAt (now (heap .entry)) k) r ⌝ }
     {
-        heap[HeapWords::HEAD + HeapWords::INTERVAL * k + HeapWords::LAST] as usize
+        heap[HeapWords::HEAD + HeapWords::PLACE * k + HeapWords::LAST] as usize
     }
 
     // Its best column.
@@ -99,7 +112,7 @@ impl MongeHeap {
         requires { ⌜ heapWords (k + 1) ≤ length (now heap) ⌝ }
         ensures { λ r. ⌜ Word (bestColumnAt (now (heap .entry)) k) r ⌝ }
     {
-        heap[HeapWords::HEAD + HeapWords::INTERVAL * k + HeapWords::BEST_COLUMN] as usize
+        heap[HeapWords::HEAD + HeapWords::PLACE * k + HeapWords::BEST_COLUMN] as usize
     }
 
     // The sum of that column.
@@ -107,7 +120,7 @@ impl MongeHeap {
         requires { ⌜ heapWords (k + 1) ≤ length (now heap) ⌝ }
         ensures { λ r. ⌜ Word (bestSumAt (now (heap .entry)) k) r ⌝ }
     {
-        heap[HeapWords::HEAD + HeapWords::INTERVAL * k + HeapWords::BEST_SUM]
+        heap[HeapWords::HEAD + HeapWords::PLACE * k + HeapWords::BEST_SUM]
     }
 
     // All of it.
@@ -115,7 +128,7 @@ impl MongeHeap {
         requires { ⌜ heapWords (k + 1) ≤ length (now heap) ⌝ }
         ensures { λ r. ⌜ told r ≡ listedAt (now (heap .entry)) k ⌝ }
     {
-        let at = HeapWords::HEAD + HeapWords::INTERVAL * k;
+        let at = HeapWords::HEAD + HeapWords::PLACE * k;
         Interval {
             parent: heap[at + HeapWords::PARENT],
             first: heap[at + HeapWords::FIRST],
@@ -124,6 +137,59 @@ impl MongeHeap {
             best_sum: heap[at + HeapWords::BEST_SUM],
         }
     }
+}
+
+// ---- paths
+
+// Whether a row has a path at a column.
+fn has_path(rows: &[[u32; Network::ROW_PLACES]], col0: usize, row: usize, column: usize) -> bool
+    requires { ⌜ (row < length (now rows)) × (col0 + column < rowPlaces) ⌝ }
+    ensures { λ t. ⌜ t ≡ hasPath (now (rows .entry)) col0 row column ⌝ }
+{
+    rows[row][col0 + column] != Network::NO_PATH
+}
+
+// The first column from `from` up to `end` at which the row has a path, or has none, as is wanted; `end` if there is none.
+fn path_turn(
+    rows: &[[u32; Network::ROW_PLACES]],
+    col0: usize,
+    row: usize,
+    want: bool,
+    from: usize,
+    end: usize,
+) -> usize
+    requires { ⌜ (row < length (now rows)) × (from ≤ end) × (col0 + end ≤ rowPlaces) ⌝ }
+    ensures { λ r. ⌜ TurnsAt (now (rows .entry)) col0 row want from end r ⌝ }
+{
+    let mut c = from;
+    while c < end {
+        if has_path(rows, col0, row, c) == want {
+            return c;
+        }
+        c += 1;
+    }
+    c
+}
+
+// How many intervals the columns of a row from `first` up to `end` are: the runs of neighbouring ones at which it has a path. It has one at the first.
+fn count_runs(
+    rows: &[[u32; Network::ROW_PLACES]],
+    col0: usize,
+    row: usize,
+    first: usize,
+    end: usize,
+) -> usize
+    requires { ⌜ (row < length (now rows)) × (first < end) × (col0 + end ≤ rowPlaces) × (hasPath (now rows) col0 row first ≡ true) ⌝ }
+    ensures { λ r. ⌜ ((labels : List ℕ) → r ≡ length (rowRuns (now (rows .entry)) col0 labels row first end)) ⌝ }
+{
+    let mut n = 0;
+    let mut c = first;
+    while c < end {
+        let stop = path_turn(rows, col0, row, false, c, end);
+        c = path_turn(rows, col0, row, true, stop, end);
+        n += 1;
+    }
+    n
 }
 
 // ---- sums
@@ -160,7 +226,8 @@ fn lesser_of_two(
 }
 
 // The lowest column of least length of a row, of those from `first` up to `end`, asked of the row's index. The index holds no single column: a stretch of two is
-// the lesser of its two columns, and to ask would take longer than to compare them.
+// the lesser of its two columns, and to ask would take longer than to compare them. The row has a path at every column of the stretch: no best is asked of
+// one that is all no path.
 fn best_in(
     rows: &[[u32; Network::ROW_PLACES]],
     index: &[[u8; Network::INDEX_PLACES]],
@@ -170,7 +237,8 @@ fn best_in(
     first: usize,
     end: usize,
 ) -> usize
-    requires { ⌜ (row < length (now rows)) × (first < end) × (end ≤ cols) × HasIndex (now index) (now rows) col0 cols ⌝ }
+    requires reads { ⌜ (row < length (now rows)) × (first < end) × (end ≤ cols) × HasIndex (now index) (now rows) col0 cols ⌝ }
+    requires paths { ⌜ ((c : ℕ) → first ≤ c → c < end → IsNumber (lentEntry (now rows) col0 row c)) ⌝ }
     ensures { λ r. ⌜ IsLeast (lentEntry (now (rows .entry)) col0 row) first end r ⌝ }
 {
     if end - first < 2 {
@@ -189,7 +257,7 @@ fn put(heap: &mut [u32], k: usize, interval: Interval)
     requires { ⌜ heapWords (k + 1) ≤ length (now heap) ⌝ }
     ensures { λ _. ⌜ PutLeaves (now (heap .entry)) (now (heap .exit)) k (told interval) ⌝ }
 {
-    let at = HeapWords::HEAD + HeapWords::INTERVAL * k;
+    let at = HeapWords::HEAD + HeapWords::PLACE * k;
     heap[at + HeapWords::PARENT] = interval.parent;
     heap[at + HeapWords::FIRST] = interval.first;
     heap[at + HeapWords::LAST] = interval.last;
@@ -285,6 +353,63 @@ fn put_rest(
     }
 }
 
+// Place k gets the columns of a row from `first` up to `end`, at all of which it has a path. Returns the lesser of their least sum and another one.
+fn put_run(
+    heap: &mut [u32],
+    rows: &[[u32; Network::ROW_PLACES]],
+    index: &[[u8; Network::INDEX_PLACES]],
+    col0: usize,
+    cols: usize,
+    labels: &[u32],
+    k: usize,
+    row: usize,
+    first: usize,
+    end: usize,
+    sum: u32,
+) -> u32
+    requires fits { ⌜ (heapWords (k + 1) ≤ length (now heap)) × (first < end) × StretchFits (now rows) col0 (now labels) row first end ⌝ }
+    requires indexed { ⌜ (end ≤ cols) × HasIndex (now index) (now rows) col0 cols ⌝ }
+    ensures { λ r. ⌜ PutRunLeaves (now (heap .entry)) (now (heap .exit)) (now (rows .entry)) col0 (now (labels .entry)) k row first end sum r ⌝ }
+{
+    put_columns(heap, rows, index, col0, cols, labels, k, row, first, end);
+    let best = MongeHeap::best_sum(heap, k);
+    if best < sum {
+        return best;
+    }
+    sum
+}
+
+// The places from `place` on get the runs of a row's columns from `first` up to `end`, so many; it has a path at the first and the last of these columns.
+// Returns the least of their sums.
+fn put_runs(
+    heap: &mut [u32],
+    rows: &[[u32; Network::ROW_PLACES]],
+    index: &[[u8; Network::INDEX_PLACES]],
+    col0: usize,
+    cols: usize,
+    labels: &[u32],
+    row: usize,
+    place: usize,
+    number: usize,
+    first: usize,
+    end: usize,
+) -> u32
+    requires fits { ⌜ PutRunsNeeds (now heap) (now rows) col0 (now labels) row place number first end ⌝ }
+    requires indexed { ⌜ (end ≤ cols) × HasIndex (now index) (now rows) col0 cols ⌝ }
+    ensures { λ r. ⌜ PutRunsLeaves (now (heap .entry)) (now (heap .exit)) (now (rows .entry)) col0 (now (labels .entry)) row place number first end r ⌝ }
+{
+    let mut c = first;
+    let mut k = place;
+    let mut sum = Network::UNREACHED;
+    while k + 1 < place + number {
+        let stop = path_turn(rows, col0, row, false, c, end);
+        sum = put_run(heap, rows, index, col0, cols, labels, k, row, c, stop, sum);
+        c = path_turn(rows, col0, row, true, stop, end);
+        k += 1;
+    }
+    put_run(heap, rows, index, col0, cols, labels, k, row, c, end, sum)
+}
+
 // The intervals from lo up to hi give way to so many others, which are still to be written.
 fn make_room(heap: &mut [u32], lo: usize, hi: usize, number: usize)
     requires { ⌜ MakeRoomNeeds (now heap) lo hi number ⌝ }
@@ -350,9 +475,33 @@ fn cut(
 
 // ---- searching
 
-// The columns that a new row wins lie together. From intervals with a lower parent it wins from some column on, from those with a
+// The columns that a new row wins lie together but for closed ones. From intervals with a lower parent it wins from some column on, from those with a
 // higher parent up to some column: each end is found by halving, first the intervals and then the columns of one. (Document 001 walks
-// outward from interval to interval instead.)
+// outward from interval to interval instead.) Between the two lie the columns that it is the first to reach.
+
+// A number in 64 bits.
+fn wide(x: u32) -> u64
+    ensures { λ r. ⌜ (r ≡ x) × (r < wordEnd) ⌝ }
+{
+    x as u64
+}
+
+// Whether row r has a path at a column and a strictly smaller sum there than row q, which has one. Row r's sum is taken in 64 bits: with no path it is not
+// below any sum of 32 bits.
+fn is_below(
+    rows: &[[u32; Network::ROW_PLACES]],
+    col0: usize,
+    labels: &[u32],
+    r: usize,
+    q: usize,
+    column: usize,
+) -> bool
+    requires { ⌜ IsBelowNeeds (now rows) col0 (now labels) r q column ⌝ }
+    ensures { λ t. ⌜ t ≡ isBelow (now (rows .entry)) col0 (now (labels .entry)) r q column ⌝ }
+{
+    let mine = wide(labels[r]) + wide(rows[r][col0 + column]);
+    mine < wide(sum_at(rows, col0, labels, q, column))
+}
 
 // Whether the row wins a column of interval k, or does not, as is wanted.
 fn tested(
@@ -369,7 +518,7 @@ fn tested(
     ensures { λ t. ⌜ t ≡ test (now (heap .entry)) (now (rows .entry)) col0 (now (labels .entry)) row want k column ⌝ }
 {
     let parent = MongeHeap::parent(heap, k);
-    let won = sum_at(rows, col0, labels, row, column) < sum_at(rows, col0, labels, parent, column);
+    let won = is_below(rows, col0, labels, row, parent, column);
     if want {
         return won;
     }
@@ -540,34 +689,180 @@ fn wins_beside(
     false
 }
 
+// ---- columns that no activated row has reached
+
+// Columns from a first one up to an end; none where the two are equal.
+struct Stretch {
+    first: usize,
+    end: usize,
+}
+
+// Whether the row is the first to reach a column: no activated row has a path there, and it has one.
+fn reaches_first(
+    heap: &[u32],
+    rows: &[[u32; Network::ROW_PLACES]],
+    col0: usize,
+    row: usize,
+    column: usize,
+) -> bool
+    requires { ⌜ (heapWords (column + 1) ≤ length (now heap)) × (row < length (now rows)) × (col0 + column < rowPlaces) ⌝ }
+    ensures { λ t. ⌜ t ≡ reachesFirst (now (heap .entry)) (now (rows .entry)) col0 row column ⌝ }
+{
+    if MongeHeap::mark(heap, column) != 0 {
+        return false;
+    }
+    has_path(rows, col0, row, column)
+}
+
+// The first column from `from` up to `to` that the row is the first to reach; `to` if there is none.
+fn first_reached(
+    heap: &[u32],
+    rows: &[[u32; Network::ROW_PLACES]],
+    col0: usize,
+    row: usize,
+    from: usize,
+    to: usize,
+) -> usize
+    requires { ⌜ (heapWords to ≤ length (now heap)) × (row < length (now rows)) × (col0 + to ≤ rowPlaces) × (from ≤ to) ⌝ }
+    ensures { λ r. ⌜ FirstIn (reachesFirst (now (heap .entry)) (now (rows .entry)) col0 row) from to r ⌝ }
+{
+    let mut c = from;
+    while c < to {
+        if reaches_first(heap, rows, col0, row, c) {
+            return c;
+        }
+        c += 1;
+    }
+    c
+}
+
+// One past the last such column; `from` if there is none.
+fn last_reached(
+    heap: &[u32],
+    rows: &[[u32; Network::ROW_PLACES]],
+    col0: usize,
+    row: usize,
+    from: usize,
+    to: usize,
+) -> usize
+    requires { ⌜ (heapWords to ≤ length (now heap)) × (row < length (now rows)) × (col0 + to ≤ rowPlaces) × (from ≤ to) ⌝ }
+    ensures { λ r. ⌜ LastIn (reachesFirst (now (heap .entry)) (now (rows .entry)) col0 row) from to r ⌝ }
+{
+    let mut c = to;
+    while from < c {
+        if reaches_first(heap, rows, col0, row, c - 1) {
+            return c;
+        }
+        c -= 1;
+    }
+    c
+}
+
+// Where the intervals before place p end.
+fn gap_from(heap: &[u32], p: usize) -> usize
+    requires { ⌜ heapWords p ≤ length (now heap) ⌝ }
+    ensures { λ r. ⌜ r ≡ gapFrom (now (heap .entry)) p ⌝ }
+{
+    if p > 0 {
+        return MongeHeap::last(heap, p - 1) + 1;
+    }
+    0
+}
+
+// Where the interval at place p begins, or the columns end.
+fn gap_to(heap: &[u32], cols: usize, p: usize) -> usize
+    requires { ⌜ heapWords (countOf (now heap)) ≤ length (now heap) ⌝ }
+    ensures { λ r. ⌜ r ≡ gapTo (now (heap .entry)) cols p ⌝ }
+{
+    if p < MongeHeap::count(heap) {
+        return MongeHeap::first(heap, p);
+    }
+    cols
+}
+
+// The columns that the row is the first to reach. They lie between the intervals before place p and that at it, if the former have lower parents and the
+// latter a higher one. Where all columns are reached there is none to look for.
+fn gap(
+    heap: &[u32],
+    rows: &[[u32; Network::ROW_PLACES]],
+    col0: usize,
+    cols: usize,
+    labels: &[u32],
+    row: usize,
+    p: usize,
+) -> Stretch
+    requires ready { ⌜ SearchNeeds (now heap) (now rows) col0 (now labels) row × GapNeeds (now heap) (now rows) col0 cols row ⌝ }
+    requires passed { ⌜ Between (λ k. ltb row (parentAt (now heap) k)) 0 (countOf (now heap)) p p ⌝ }
+    ensures { λ r. ⌜ GapLeaves (now (heap .entry)) (now (rows .entry)) col0 cols row p (r .first) (r .end) ⌝ }
+{
+    if MongeHeap::reached(heap) == cols {
+        return Stretch { first: 0, end: 0 };
+    }
+    let from = gap_from(heap, p);
+    let to = gap_to(heap, cols, p);
+    let first = first_reached(heap, rows, col0, row, from, to);
+    let end = last_reached(heap, rows, col0, row, first, to);
+    Stretch { first, end }
+}
+
+// Where the won columns begin: with those won from lower parents, else with those of the gap, else with those won from higher parents.
+fn start_of(p: usize, lo: usize, left: usize, first: usize, end: usize) -> usize
+    ensures { λ r. ⌜ r ≡ startOf p lo left first end ⌝ }
+{
+    if lo < p {
+        return left;
+    }
+    if first < end {
+        return first;
+    }
+    left
+}
+
+// Where they end: the other way round.
+fn stop_of(p: usize, hi: usize, right: usize, first: usize, end: usize) -> usize
+    ensures { λ r. ⌜ r ≡ stopOf p hi right first end ⌝ }
+{
+    if p < hi {
+        return right;
+    }
+    if first < end {
+        return end;
+    }
+    right
+}
+
 // What a new row wins.
 fn search(
     heap: &[u32],
     rows: &[[u32; Network::ROW_PLACES]],
     col0: usize,
+    cols: usize,
     labels: &[u32],
     row: usize,
 ) -> Won
-    requires { ⌜ SearchNeeds (now heap) (now rows) col0 (now labels) row ⌝ }
-    ensures { λ r. ⌜ SearchLeaves (now (heap .entry)) (now (rows .entry)) col0 (now (labels .entry)) row (r .lo) (r .hi) (r .first) (r .end) ⌝ }
+    requires { ⌜ SearchNeeds (now heap) (now rows) col0 (now labels) row × GapNeeds (now heap) (now rows) col0 cols row ⌝ }
+    ensures { λ r. ⌜ SearchLeaves (now (heap .entry)) (now (rows .entry)) col0 cols (now (labels .entry)) row (r .lo) (r .hi) (r .first) (r .end) ⌝ }
 {
     let n = MongeHeap::count(heap);
     let p = first_yes(heap, rows, col0, labels, row, Question::Parent, 0, n);
-    if !wins_beside(heap, rows, col0, labels, row, p) {
-        return Won {
-            lo: p,
-            hi: p,
-            first: 0,
-            end: 0,
-        };
+    let free = gap(heap, rows, col0, cols, labels, row, p);
+    if free.end <= free.first {
+        if !wins_beside(heap, rows, col0, labels, row, p) {
+            return Won {
+                lo: p,
+                hi: p,
+                first: 0,
+                end: 0,
+            };
+        }
     }
     let left = turn(heap, rows, col0, labels, row, true, 0, p);
     let right = end_of(heap, turn(heap, rows, col0, labels, row, false, p, n));
     Won {
         lo: left.place,
         hi: right.place,
-        first: left.column,
-        end: right.column,
+        first: start_of(p, left.place, left.column, free.first, free.end),
+        end: stop_of(p, right.place, right.column, free.first, free.end),
     }
 }
 
@@ -611,27 +906,77 @@ pub struct Activated {
     pub sum: u32,
 }
 
-// The first row gets one interval with all columns.
-fn put_first(
-    heap: &mut [u32],
+// What is left of an interval: its parent, and its columns from `first` up to `end`.
+struct Rest {
+    parent: usize,
+    first: usize,
+    end: usize,
+}
+
+// What is left before column `first` of the first of the intervals lo up to hi; nothing where there are none.
+fn left_rest(heap: &[u32], lo: usize, hi: usize, first: usize) -> Rest
+    requires { ⌜ (heapWords hi ≤ length (now heap)) ⌝ }
+    ensures { λ r. ⌜ r ≡ leftOf (now (heap .entry)) lo hi first ⌝ }
+{
+    if lo < hi {
+        let parent = MongeHeap::parent(heap, lo);
+        let from = MongeHeap::first(heap, lo);
+        return Rest {
+            parent,
+            first: from,
+            end: first,
+        };
+    }
+    Rest {
+        parent: 0,
+        first: 0,
+        end: 0,
+    }
+}
+
+// What is left of the last of them from column `end` on.
+fn right_rest(heap: &[u32], lo: usize, hi: usize, end: usize) -> Rest
+    requires { ⌜ (heapWords hi ≤ length (now heap)) ⌝ }
+    ensures { λ r. ⌜ r ≡ rightOf (now (heap .entry)) lo hi end ⌝ }
+{
+    if lo < hi {
+        let parent = MongeHeap::parent(heap, hi - 1);
+        let last = MongeHeap::last(heap, hi - 1);
+        return Rest {
+            parent,
+            first: end,
+            end: last + 1,
+        };
+    }
+    Rest {
+        parent: 0,
+        first: 0,
+        end: 0,
+    }
+}
+
+// How many intervals the row gets: the columns that it wins lie together but for closed ones. Where all columns are reached none is closed.
+fn own_runs(
+    heap: &[u32],
     rows: &[[u32; Network::ROW_PLACES]],
-    index: &[[u8; Network::INDEX_PLACES]],
     col0: usize,
     cols: usize,
-    labels: &[u32],
     row: usize,
-)
-    requires fits { ⌜ (heapWords 1 ≤ length (now heap)) × (0 < cols) × StretchFits (now rows) col0 (now labels) row 0 cols ⌝ }
-    requires indexed { ⌜ HasIndex (now index) (now rows) col0 cols ⌝ }
-    ensures { λ _. ⌜ PutFirstLeaves (now (heap .entry)) (now (heap .exit)) (now (rows .entry)) col0 (now (labels .entry)) row cols ⌝ }
+    first: usize,
+    end: usize,
+) -> usize
+    requires reads { ⌜ (headWords ≤ length (now heap)) × (row < length (now rows)) × (first < end) × (col0 + end ≤ rowPlaces) × (hasPath (now rows) col0 row first ≡ true) ⌝ }
+    requires full { ⌜ (reachedOf (now heap) ≡ cols → (c : ℕ) → first ≤ c → c < end → hasPath (now rows) col0 row c ≡ true) ⌝ }
+    ensures { λ r. ⌜ ((labels : List ℕ) → r ≡ length (rowRuns (now (rows .entry)) col0 labels row first end)) ⌝ }
 {
-    heap[HeapWords::COUNT] = 1;
-    heap[HeapWords::MARK] = 1;
-    put_columns(heap, rows, index, col0, cols, labels, 0, row, 0, cols);
+    if MongeHeap::reached(heap) == cols {
+        return 1;
+    }
+    count_runs(rows, col0, row, first, end)
 }
 
 // The row gets the columns that it wins: the intervals that meet them give way to what is left of the first and of the last of these,
-// with the row's own interval between the two.
+// with the row's own intervals between the two.
 fn put_won(
     heap: &mut [u32],
     rows: &[[u32; Network::ROW_PLACES]],
@@ -642,18 +987,17 @@ fn put_won(
     row: usize,
     won: Won,
 ) -> Activated
-    requires fits { ⌜ PutWonNeeds (now heap) (now rows) col0 (now labels) row (won .lo) (won .hi) (won .first) (won .end) ⌝ }
-    requires indexed { ⌜ (lastAt (now heap) (won .hi - 1) < cols) × HasIndex (now index) (now rows) col0 cols ⌝ }
+    requires fits { ⌜ PutWonNeeds (now heap) (now rows) col0 cols (now labels) row (won .lo) (won .hi) (won .first) (won .end) ⌝ }
+    requires indexed { ⌜ HasIndex (now index) (now rows) col0 cols ⌝ }
     ensures { λ r. ⌜ PutWonLeaves (now (heap .entry)) (now (heap .exit)) (now (rows .entry)) col0 (now (labels .entry)) row (won .lo) (won .hi) (won .first) (won .end) r ⌝ }
 {
     let lo = won.lo;
     let hi = won.hi;
-    let left = MongeHeap::parent(heap, lo);
-    let from = MongeHeap::first(heap, lo);
-    let right = MongeHeap::parent(heap, hi - 1);
-    let to = MongeHeap::last(heap, hi - 1) + 1;
-    let place = lo + rest_len(from, won.first);
-    let number = place - lo + 1 + rest_len(won.end, to);
+    let runs = own_runs(heap, rows, col0, cols, row, won.first, won.end);
+    let left = left_rest(heap, lo, hi, won.first);
+    let right = right_rest(heap, lo, hi, won.end);
+    let place = lo + rest_len(left.first, left.end);
+    let number = place - lo + runs + rest_len(right.first, right.end);
     make_room(heap, lo, hi, number);
     put_rest(
         heap,
@@ -663,9 +1007,9 @@ fn put_won(
         cols,
         labels,
         lo,
-        left,
-        from,
-        won.first,
+        left.parent,
+        left.first,
+        left.end,
     );
     put_rest(
         heap,
@@ -674,34 +1018,123 @@ fn put_won(
         col0,
         cols,
         labels,
-        place + 1,
-        right,
-        won.end,
-        to,
+        place + runs,
+        right.parent,
+        right.first,
+        right.end,
     );
-    put_columns(
+    let sum = put_runs(
         heap,
         rows,
         index,
         col0,
         cols,
         labels,
-        place,
         row,
+        place,
+        runs,
         won.first,
         won.end,
     );
-    let inserted = number as u32;
-    let removed = (hi - lo) as u32;
-    let sum = MongeHeap::best_sum(heap, place);
     Activated {
-        inserted,
-        removed,
+        inserted: number as u32,
+        removed: (hi - lo) as u32,
         sum,
     }
 }
 
-// The row is activated with the label at its place. It gets the columns that it wins, all of them if it is the first.
+// A column is reached if the row is the first to reach it.
+fn reach_column(
+    heap: &mut [u32],
+    rows: &[[u32; Network::ROW_PLACES]],
+    col0: usize,
+    cols: usize,
+    row: usize,
+    column: usize,
+)
+    requires { ⌜ Counted (now heap) cols × (column < cols) × (row < length (now rows)) × (col0 + cols ≤ rowPlaces) ⌝ }
+    ensures { λ _. ⌜ ReachLeaves (now (heap .entry)) (now (heap .exit)) (now (rows .entry)) col0 cols row column (column + 1) ⌝ }
+{
+    if reaches_first(heap, rows, col0, row, column) {
+        let reached = heap[HeapWords::REACHED] + 1;
+        heap[HeapWords::HEAD + HeapWords::PLACE * column + HeapWords::MARK] = 1;
+        heap[HeapWords::REACHED] = reached;
+    }
+}
+
+// The columns from `first` up to `end` at which the row has a path are reached.
+fn reach(
+    heap: &mut [u32],
+    rows: &[[u32; Network::ROW_PLACES]],
+    col0: usize,
+    cols: usize,
+    row: usize,
+    first: usize,
+    end: usize,
+)
+    requires { ⌜ Counted (now heap) cols × (first ≤ end) × (end ≤ cols) × (row < length (now rows)) × (col0 + cols ≤ rowPlaces) ⌝ }
+    ensures { λ _. ⌜ ReachLeaves (now (heap .entry)) (now (heap .exit)) (now (rows .entry)) col0 cols row first end ⌝ }
+{
+    if MongeHeap::reached(heap) == cols {
+        return;
+    }
+    let mut c = first;
+    while c < end {
+        reach_column(heap, rows, col0, cols, row, c);
+        c += 1;
+    }
+}
+
+// Every column is marked, and counted.
+fn mark_all(heap: &mut [u32], cols: usize)
+    requires { ⌜ (heapWords cols ≤ length (now heap)) × (cols ≤ rowPlaces) ⌝ }
+    ensures { λ _. ⌜ MarkAllLeaves (now (heap .entry)) (now (heap .exit)) cols ⌝ }
+{
+    let mut c = 0;
+    while c < cols {
+        heap[HeapWords::HEAD + HeapWords::PLACE * c + HeapWords::MARK] = 1;
+        c += 1;
+    }
+    heap[HeapWords::REACHED] = cols as u32;
+}
+
+// The row gets one interval with all columns, and all are reached.
+fn put_all(
+    heap: &mut [u32],
+    rows: &[[u32; Network::ROW_PLACES]],
+    index: &[[u8; Network::INDEX_PLACES]],
+    col0: usize,
+    cols: usize,
+    labels: &[u32],
+    row: usize,
+)
+    requires fits { ⌜ (heapWords cols ≤ length (now heap)) × (0 < cols) × StretchFits (now rows) col0 (now labels) row 0 cols ⌝ }
+    requires indexed { ⌜ HasIndex (now index) (now rows) col0 cols ⌝ }
+    ensures { λ _. ⌜ PutAllLeaves (now (heap .entry)) (now (heap .exit)) (now (rows .entry)) col0 (now (labels .entry)) row cols ⌝ }
+{
+    heap[HeapWords::COUNT] = 1;
+    put_columns(heap, rows, index, col0, cols, labels, 0, row, 0, cols);
+    mark_all(heap, cols);
+}
+
+// Whether the row wins all columns as the first to reach them. In a block without no path that is the first row, and no search is needed.
+fn wins_all(
+    heap: &[u32],
+    rows: &[[u32; Network::ROW_PLACES]],
+    col0: usize,
+    cols: usize,
+    row: usize,
+) -> bool
+    requires { ⌜ (headWords ≤ length (now heap)) × (row < length (now rows)) × (col0 + cols ≤ rowPlaces) ⌝ }
+    ensures { λ t. ⌜ (t ≡ true → WinsAll (now (heap .entry)) (now (rows .entry)) col0 cols row) ⌝ }
+{
+    if MongeHeap::reached(heap) > 0 {
+        return false;
+    }
+    path_turn(rows, col0, row, false, 0, cols) == cols
+}
+
+// The row is activated with the label at its place. It gets the columns that it wins, and those of them that no row had a path at are reached.
 pub fn activate(
     heap: &mut [u32],
     rows: &[[u32; Network::ROW_PLACES]],
@@ -716,17 +1149,21 @@ pub fn activate(
     ensures held { λ r. ⌜ ActivateLeaves (now (heap .entry)) (now (heap .exit)) (now (rows .entry)) col0 cols (now (labels .entry)) row r ⌝ }
     ensures long { λ _. ⌜ length (now (heap .exit)) ≡ length (now (heap .entry)) ⌝ }
 {
-    if MongeHeap::mark(heap) == 0 {
-        put_first(heap, rows, index, col0, cols, labels, row);
+    if wins_all(heap, rows, col0, cols, row) {
+        put_all(heap, rows, index, col0, cols, labels, row);
         return Activated {
             inserted: 1,
             removed: 0,
             sum: MongeHeap::best_sum(heap, 0),
         };
     }
-    let won = search(heap, rows, col0, labels, row);
-    if won.lo < won.hi {
-        return put_won(heap, rows, index, col0, cols, labels, row, won);
+    let won = search(heap, rows, col0, cols, labels, row);
+    let first = won.first;
+    let end = won.end;
+    if first < end {
+        let activated = put_won(heap, rows, index, col0, cols, labels, row, won);
+        reach(heap, rows, col0, cols, row, first, end);
+        return activated;
     }
     Activated {
         inserted: 0,

@@ -7,8 +7,8 @@ use Prim.Native.Nat.{ℕ, suc, _+_, _≤_}
 use native.Mathlib.Omega.{arith}
 use lib.ListN.{length}
 use Rattle.definitions.specs.Network.{Rectangle}
+use Rattle.definitions.specs.Monge.{Monge, closed}
 use Rattle.definitions.specs.Model.{fresh, Call, Answer, step, Trace, freshTrace, extend, traceFrom, trace, AllExtractLeast, allowances}
-use Rattle.heap_laws.specs.Inequality.{MongeAll}
 use Rattle.heap_laws.specs.Sound.{Sound, fresh-sound, extend-sound}
 use Rattle.heap_laws.specs.Extract.{extracts-least}
 use Rattle.heap_laws.specs.TraceCounts.{step-allowed}
@@ -18,7 +18,7 @@ module _ (e : Rectangle) (rows cols : ℕ) where
     answers : List Answer
     each : length answers ≡ length ks
     added : traceFrom e rows cols t ks .answers ≡ t .answers ++ answers
-    allowed : MongeAll e rows cols → traceFrom e rows cols t ks .inserted ≤ t .inserted + allowances ks answers
+    allowed : Monge e rows cols → traceFrom e rows cols t ks .inserted ≤ t .inserted + allowances (closed e rows cols) ks answers
     least : AllExtractLeast e rows cols (t .model) ks answers
 
   answered : (t : Trace) (ks : List Call) → Sound e rows cols (t .model) → Answered t ks
@@ -45,7 +45,7 @@ module _ (e : Rectangle) (rows cols : ℕ) where
     trace-each = rw (all .added) (all .each)
 
     -- all calls insert within their allowances
-    pub trace-allowed : MongeAll e rows cols → trace e rows cols ks .inserted ≤ allowances ks (trace e rows cols ks .answers)
+    pub trace-allowed : Monge e rows cols → trace e rows cols ks .inserted ≤ allowances (closed e rows cols) ks (trace e rows cols ks .answers)
     unfolding trace
     trace-allowed ok = rw (all .added) (omega (arith, all .allowed ok))
 

@@ -2,9 +2,9 @@
 --   least-of-bests            the least of them is the least of all columns that are left
 --   SameSum same-sum          two bests with one sum
 --   activate-same             the least sum stays where an activation wins nothing
---   activate-lowers           else it is the lesser of the one before and the best of the columns won
+--   activate-lowers           else it is the lesser of the one before and the best of the columns won; a closed one has no sum
 use mathlib.Core.Path.{_≡_, refl, sym, ap, _∙_}
-use mathlib.Core.Bool.{cond, false}
+use mathlib.Core.Bool.{Bool, cond, false}
 use mathlib.Core.List.{List, [], _∷_, map}
 use mathlib.Core.Logic.{_⊎_, inl, inr, ⊎-elim}
 use Prim.Native.Nat.{ℕ, zero, suc, _+_, _-_, _≤_, _<_}
@@ -91,7 +91,7 @@ module _ (e : Rectangle) (m : Model) (r v : ℕ) where
   pub activate-same : (cols : ℕ) → ((c : ℕ) → c < cols → won e (m .activated) r v c ≡ false) → leastLeft e cols (activate m r v) ≡ leastLeft e cols m
   activate-same cols lost = leastFrom-same (available e (activate m r v)) (available e m) 0 cols (λ c _ l. activate-lost e m r v c (lost c (omega arith)))
 
-  module _ (cols first end : ℕ) (wins : Range (won e (m .activated) r v) cols first end) (c s : ℕ)
+  module _ {out : ℕ → Bool} (cols first end : ℕ) (wins : Range (won e (m .activated) r v) out cols first end) (c s : ℕ)
       (best : Lowest (available e (activate m r v)) first (end - first) c s) where
     -- the sum of a column afterwards is not below the best of those won, or it was there before
     won-or-same : (d p t : ℕ) → d < cols → available e (activate m r v) d ≡ by p t → (s ≤ t) ⊎ (available e m d ≡ by p t)

@@ -1,7 +1,7 @@
 -- How many intervals of one list are not in another.
 --   isKept-append                          an interval of two lists
 --   countNew-append                        of two lists
---   countNew-tail countNew-same            none of a part, none of the same
+--   countNew-tail countNew-same countNew-new   none of a part, none of the same, all where none was there
 --   runs-distinct                          runs stand each once
 --   balance                                inserted and kept before = removed and kept after
 use mathlib.Core.Path.{_≡_, refl, sym, ap}
@@ -11,6 +11,7 @@ use Prim.Native.Nat.{ℕ, suc, _+_}
 use native.Mathlib.Nat.{zero-add}
 use native.Mathlib.Omega.{arith}
 use lib.ListN.{length}
+use Rattle.definitions.specs.Lists.{Every}
 use Rattle.definitions.specs.Best.{Best}
 use Rattle.definitions.specs.Intervals.{Interval, runs, sameInterval, isKept, Distinct, countNew}
 use Rattle.definitions.specs.Laws.OrderLaws.{rising-firsts, firsts-distinct}
@@ -47,6 +48,12 @@ countNew-tail xs (y ∷ ys) =
 
 pub countNew-same : (xs : List Interval) → countNew xs xs ≡ 0
 countNew-same xs = countNew-tail [] xs
+
+-- none of them was there
+pub countNew-new : (xs us : List Interval) → Every (λ x. isKept x us ≡ false) xs → countNew xs us ≡ length xs
+unfolding countNew
+countNew-new [] us h = refl
+countNew-new (x ∷ xs) us h = simp (h .0) (ap suc (countNew-new xs us (h .1)))
 
 -- ---- each once
 

@@ -1,5 +1,5 @@
 -- The earliest of least sum: laws of `lesser`.
---   lesser-nobody lesser-assoc     a unit, and the order of grouping
+--   lesser-nobody lesser-assoc lesser-none   a unit, the order of grouping, and when it is nobody
 --   beats                          a sum that is strictly below a best
 --   wins loses                     what a later sum changes
 --   From UpTo ..                   bounds of a best's sum
@@ -31,6 +31,17 @@ lesser-assoc (by p s) (by p′ s′) (by p″ s″) = go (order s′ s) (order s
     go (less a h) (more b k) = simp (a, b)
     go (more a h) (less b k) = simp (a, b)
     go (more a h) (more b k) = simp (a, b, le-ltb s″ s (omega arith))
+
+-- nobody of both
+pub lesser-none : (x y : Best) → lesser x y ≡ nobody → (x ≡ nobody) × (y ≡ nobody)
+unfolding lesser
+lesser-none nobody y h = (refl, h)
+lesser-none (by p s) nobody h = let z : _≡_ {A = ℕ} 0 1 = cc in absurd (omega arith)
+lesser-none (by p s) (by p′ s′) h = go (order s′ s)
+  where
+    go : Order s′ s → (by p s ≡ nobody) × (by p′ s′ ≡ nobody)
+    go (less t _) = let k : by p′ s′ ≡ nobody = simp t at h in let z : _≡_ {A = ℕ} 0 1 = cc in absurd (omega arith)
+    go (more t _) = let k : by p s ≡ nobody = simp t at h in let z : _≡_ {A = ℕ} 0 1 = cc in absurd (omega arith)
 
 -- ---- a sum against a best
 

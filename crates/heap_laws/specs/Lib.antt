@@ -1,6 +1,4 @@
 -- The laws of the heap model of a Monge rectangle. `HeapTheorems` restates the main ones; the others are their parts.
-pub mod Inequality
-pub mod Neighbours
 pub mod Lesser
 pub mod Parents
 pub mod Won
@@ -9,6 +7,7 @@ pub mod Sound
 pub mod Sides
 pub mod Counting
 pub mod Edits
+pub mod Gaps
 pub mod Activate
 pub mod Extract
 pub mod Bests

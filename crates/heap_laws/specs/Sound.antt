@@ -15,17 +15,17 @@ use native.Mathlib.Omega.{arith}
 use borrow.Author.Tests.{eqb-true}
 use lib.Dec.{eqb}
 use lib.ListN.{length, length-map}
-use Rattle.definitions.specs.Limits.{maxLabel, sum}
+use Rattle.definitions.specs.Limits.{maxLabel, sum, noPath}
 use Rattle.definitions.specs.Lists.{mem, Every}
 use Rattle.definitions.specs.Network.{Rectangle}
 use Rattle.definitions.specs.Best.{Best, nobody, by, lesser, least, leastFrom}
 use Rattle.definitions.specs.Laws.LeastLaws.{Found, found-is}
 use Rattle.definitions.specs.Model.{Activation, Model, fresh, through, parent, available, isActivated, Call, activate, extract, step, Trace, extend, traceFrom, trace, Reached}
-use Rattle.logic.specs.Tests.{clash, or-left, Truth, holds, fails, truth}
+use Rattle.logic.specs.Tests.{clash, or-left, Truth, holds, fails, truth, Equal, equal, differ, equality}
 use Rattle.basics.specs.ListLaws.{every-snoc, every-map, Different, mem-snoc, different-snoc, at-most}
 use Rattle.heap_laws.specs.Lesser.{From, UpTo, from-each, from-lesser, upTo-lesser, upTo-le, upTo-beats}
-use Rattle.heap_laws.specs.Parents.{Once, once-snoc, parent-snoc}
-use Rattle.heap_laws.specs.Won.{won}
+use Rattle.heap_laws.specs.Parents.{Once, once-snoc, parent-snoc, through-from}
+use Rattle.heap_laws.specs.Won.{won, won-number, won-nowhere}
 use Rattle.heap_laws.specs.ModelCalls.{cases, Cases, activates, extracts, refuses, step-activate, step-extract, step-refused, trace-snoc, trace-induction}
 
 pub record Sound (e : Rectangle) (rows cols : ℕ) (m : Model) : Type 0 where
@@ -48,7 +48,7 @@ module _ (e : Rectangle) (rows cols : ℕ) where
 
   pub activate-sound : (m : Model) (r v : ℕ) → r < rows → isActivated r (m .activated) ≡ false → m .floor ≤ v → v ≤ maxLabel
       → Sound e rows cols m → Sound e rows cols (activate m r v)
-  unfolding activate available through
+  unfolding activate available
   activate-sound m r v hr new hv lv g = record {
     in-rows = every-snoc (λ a. a .row < rows) (m .activated) a (g .in-rows) hr;
     once = once-snoc (m .activated) a (g .once) new;
@@ -65,7 +65,7 @@ module _ (e : Rectangle) (rows cols : ℕ) where
       go : (c : ℕ) → From (m .floor) (available e m c) → Truth (mem c (m .extracted))
           → From (m .floor) (cond (mem c (m .extracted)) nobody (lesser (parent e (m .activated) c) (through e c a)))
       go c h (holds t) = simp t tt
-      go c h (fails t) = simp t (from-lesser (m .floor) (parent e (m .activated) c) (through e c a) (simp t at h) (omega arith))
+      go c h (fails t) = simp t (from-lesser (m .floor) (parent e (m .activated) c) (through e c a) (simp t at h) (through-from e c a (m .floor) hv))
 
   pub extract-sound : (m : Model) (x : Best) → Found (available e m) 0 cols x → Sound e rows cols m → Sound e rows cols (extract m x)
   unfolding extract available
@@ -105,8 +105,11 @@ module _ (e : Rectangle) (rows cols : ℕ) where
 
   -- a row whose label is no lower than the floor strictly wins no extracted column
   pub extracted-lost : (m : Model) → Sound e rows cols m → (r v c : ℕ) → m .floor ≤ v → mem c (m .extracted) ≡ true → won e (m .activated) r v c ≡ false
-  unfolding won
-  extracted-lost m g r v c hv h = upTo-beats (m .floor) (sum v (e r c)) (parent e (m .activated) c) (omega arith) (g .low c h)
+  extracted-lost m g r v c hv h = go (equality (e r c) noPath)
+    where
+      go : Equal (e r c) noPath → won e (m .activated) r v c ≡ false
+      go (equal _ q) = won-nowhere e (m .activated) r v c q
+      go (differ _ n) = won-number e (m .activated) r v c n ∙ upTo-beats (m .floor) (sum v (e r c)) (parent e (m .activated) c) (omega arith) (g .low c h)
 
   pub won-available : (m : Model) → Sound e rows cols m → (r v c : ℕ) → m .floor ≤ v → won e (m .activated) r v c ≡ true → mem c (m .extracted) ≡ false
   won-available m g r v c hv h = go (truth (mem c (m .extracted)))

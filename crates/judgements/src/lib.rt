@@ -1,11 +1,12 @@
 // The judgements of documents 01 and 02 on a piece, a network and a question, each of which answers 0 or the number of the cause.
 ghost use mathlib.Core.Path.{_≡_};
+ghost use mathlib.Core.Bool.{true};
 ghost use mathlib.Core.List.{[], _∷_};
-ghost use Prim.Native.Nat.{_≤_};
-ghost use lib.Dec.{leb};
+ghost use Prim.Native.Nat.{_≤_, _<_};
 ghost use lib.ListN.{length};
-ghost use Rattle.definitions.specs.Limits.{maxPieces, maxSize, maxLength, sizePlaces, vertexPlaces, lengthPlaces, tablePlaces};
+ghost use Rattle.definitions.specs.Limits.{maxPieces, maxSize, sizePlaces, vertexPlaces, lengthPlaces, tablePlaces};
 ghost use Rattle.definitions.specs.Lists.{every, mem, within};
+ghost use Rattle.definitions.specs.Metres.{isLength};
 ghost use Rattle.definitions.specs.Blocks.{allSplits, windows, windowsOf};
 ghost use Rattle.definitions.specs.Judgement.{judgeBounds, judgeSize, judgeVertices, judgeRow, judgeRows, judgeFrom, judgeSource, judgeTarget};
 ghost use Rattle.definitions.specs.Entries.{judgeBuffers, judgeLent};
@@ -97,15 +98,22 @@ pub fn judge_vertices(n: u32, vertices: &[u32]) -> u32
     Cause::NONE
 }
 
-// Whether every length of a row is within its limit. All are looked at, behind one that is not too: a loop that goes to its end is compiled to take four
+// Whether a table may hold a length: a number within the limit, or no path.
+pub fn is_length(l: u32) -> bool
+    ensures { λ r. ⌜ r ≡ isLength l ⌝ }
+{
+    (l <= Network::MAX_LENGTH) | (l == Network::NO_PATH)
+}
+
+// Whether a table may hold every length of a row. All are looked at, behind one that it may not too: a loop that goes to its end is compiled to take four
 // at a time.
 fn lengths_fit(row: &[u32]) -> bool
-    ensures { λ r. ⌜ r ≡ every (λ l. leb l maxLength) (now (row .entry)) ⌝ }
+    ensures { λ r. ⌜ r ≡ every isLength (now (row .entry)) ⌝ }
 {
     let mut fit = true;
     let mut k = 0;
     while k < row.len() {
-        fit = fit & (row[k] <= Network::MAX_LENGTH);
+        fit = fit & is_length(row[k]);
         k += 1;
     }
     fit
@@ -137,16 +145,27 @@ fn split_passes(lengths: &[u32], split: Split) -> bool
         && monge::block_is_monge(lengths, split.middle, split.first, high, low)
 }
 
+// Whether both blocks of a split pass the quick check, as they do where all lengths are numbers; if not, they may still pass.
+fn quick_split(lengths: &[u32], split: Split) -> bool
+    requires { ⌜ (length (now lengths) ≡ tablePlaces) × (split .first < split .middle) × (split .middle < split .end) × (split .end ≤ maxSize) ⌝ }
+    ensures { λ r. ⌜ (r ≡ true → every (passesIn (now (lengths .entry))) (windows (splitOf split ∷ [])) ≡ true) ⌝ }
+{
+    let low = split.middle - split.first;
+    let high = split.end - split.middle;
+    monge::quick_block(lengths, split.first, split.middle, low, high)
+        && monge::quick_block(lengths, split.middle, split.first, high, low)
+}
+
 // Whether every block of a piece of m places passes in its table; `list` is the list of splits.
 fn blocks_pass(lengths: &[u32], m: usize, list: &[u8]) -> bool
-    requires { ⌜ (1 ≤ m) × (m ≤ maxSize) × (now list ≡ flattened allSplits) ⌝ }
+    requires { ⌜ (length (now lengths) ≡ tablePlaces) × (1 ≤ m) × (m ≤ maxSize) × (now list ≡ flattened allSplits) ⌝ }
     ensures { λ r. ⌜ r ≡ every (passesIn (now (lengths .entry))) (windowsOf m) ⌝ }
 {
     let first = splits::first_split(m);
     let mut j = 0;
     while j + 1 < m {
         let split = splits::split_in(list, first + j);
-        if !split_passes(lengths, split) {
+        if !quick_split(lengths, split) && !split_passes(lengths, split) {
             return false;
         }
         j += 1;

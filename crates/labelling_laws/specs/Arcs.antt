@@ -2,27 +2,32 @@
 --   blocks-fit                       every block fits
 --   PieceArc of-piece                an arc of a block is one of the block's piece
 --   walk-to-blocks walk-to-pieces    a walk over the pieces is one over the blocks, and back
---   all-rows all-cols rows-cols      at most the weight
+--   all-rows all-cols                at most the weight
+--   few-closed open-none             the closed columns of a block; none where every entry is a number
+--   all-inserted                     the intervals that all calls can insert
 use mathlib.Core.Path.{_≡_, refl, sym, _∙_}
 use mathlib.Core.Bool.{true, false}
 use mathlib.Core.List.{List, [], _∷_, map}
 use mathlib.Core.Logic.{inl, inr, ⊎-elim}
 use Prim.Native.Nat.{ℕ, zero, suc, _+_, _-_, _*_, _≤_, _<_}
-use native.Mathlib.Nat.{le-refl}
+use native.Mathlib.Nat.{le-refl, mul-add, add-mul, mul-le-mul-left}
 use native.Mathlib.Omega.{arith}
 use borrow.Author.Tests.{ne-eqb}
 use lib.ListN.{getD, length}
 use Rattle.definitions.specs.Limits.{maxSize}
+use Rattle.definitions.specs.Metres.{IsNumber}
 use Rattle.definitions.specs.Lists.{mem, total, upFrom, Every}
-use Rattle.definitions.specs.Network.{Piece, sizeOf, noPiece, ArcIn, Arc, Walk}
+use Rattle.definitions.specs.Network.{Piece, entry, sizeOf, noPiece, Open, ArcIn, Arc, Walk}
 use Rattle.definitions.specs.Blocks.{Window, windowsOf, rowsOf, logarithm, Block, blockOf, blocksOf, blocksFrom, blocks, noBlock, passes, weight}
-use Rattle.basics.specs.ListLaws.{every-at, every-append, Any, any-at, at-any, any-left, any-right, any-cases, any-map, any-back, total-append, Different}
-use Rattle.heap_laws.specs.Neighbours.{isMonge-all}
+use Rattle.definitions.specs.Laws.MongeLaws.{isMonge-is}
+use Rattle.definitions.specs.Laws.Members.{every-imp}
+use Rattle.basics.specs.ListLaws.{every-at, every-append, every-map, Any, any-at, at-any, any-left, any-right, any-cases, any-map, any-back, total-le, total-append, Different}
+use Rattle.heap_laws.specs.Activate.{closed-none, closed-few}
 use Rattle.splits.specs.Windows.{Inside, windows-inside, pair-once, spanned, Spans, rows-few, cols-few}
 use Rattle.basics.specs.ListPlaces.{different-at}
 use Rattle.basics.specs.PiecePlaces.{block-rows, block-cols, row-vertex, col-vertex, entry-at}
 use Rattle.labelling_laws.specs.Walks.{ArcOf, BlockArc, walk-map}
-use Rattle.labelling_laws.specs.OneBlock.{Fit}
+use Rattle.labelling_laws.specs.OneBlock.{Fit, insertedMost, FewClosed, inserted-most}
 use Rattle.labelling_laws.specs.Acceptance.{Suits}
 
 -- ---- the blocks fit
@@ -45,7 +50,7 @@ module _ (n : ℕ) where
         let lc : c < w .cols = rw block-cols at l in
         rw (col-vertex d q w c lc) (every-at (λ v. (1 ≤ v) × (v ≤ n)) (q .vertices) (su .vertices-in) (w .col0 + (w .cols - 1 - c)) 0 (omega (arith, i .cols-in)));
     short = λ r c lr lc. rw (entry-at d q w r c (rw block-rows at lr) (rw block-cols at lc)) (su .short (w .row0 + r) (w .col0 + (w .cols - 1 - c)));
-    monge = isMonge-all _ _ _ ok;
+    monge = isMonge-is _ _ _ ok;
   }
 
   -- the check does not look at the piece's number
@@ -81,6 +86,7 @@ arc-to-block d q u v l a w s =
       tail = row-vertex d q w i row-in ∙ rw at-row (a .tail);
       head = col-vertex d q w k col-in ∙ rw at-col (a .head);
       length-is = entry-at d q w i k row-in col-in ∙ rw (at-row, at-col) (a .length-is);
+      some-path = a .some-path;
     }
 
 arc-to-piece : (d : ℕ) (q : Piece) (u v l : ℕ) (w : Window) → Inside (sizeOf q) w → ArcOf (blockOf d q w) u v l → ArcIn q u v l
@@ -96,6 +102,7 @@ arc-to-piece d q u v l w i a =
       tail = sym (row-vertex d q w (a .row) row-in) ∙ a .tail;
       head = sym (col-vertex d q w (a .col) col-in) ∙ a .head;
       length-is = sym (entry-at d q w (a .row) (a .col) row-in col-in) ∙ a .length-is;
+      some-path = a .some-path;
     }
 
 -- an arc of the piece of number k, where the first piece has the number d
@@ -181,7 +188,43 @@ all-rows = of-all (λ b. length (b .rows)) (λ w. w .rows) block-rows rows-few
 pub all-cols : (n : ℕ) (qs : List Piece) → Every (Suits n) qs → total (map (λ b. length (b .cols)) (blocks qs)) ≤ weight qs
 all-cols = of-all (λ b. length (b .cols)) (λ w. w .cols) block-cols cols-few
 
-pub rows-cols : (bs : List Block) → total (map (λ b. 3 * length (b .rows) + 2 * length (b .cols)) bs) ≡ 3 * total (map (λ b. length (b .rows)) bs) + 2 * total (map (λ b. length (b .cols)) bs)
+rows-cols : (k : ℕ) (bs : List Block) → total (map (λ b. k * length (b .rows) + 2 * length (b .cols)) bs) ≡ k * total (map (λ b. length (b .rows)) bs) + 2 * total (map (λ b. length (b .cols)) bs)
 unfolding total
-rows-cols [] = refl
-rows-cols (b ∷ bs) = omega (arith, rows-cols bs)
+rows-cols k [] = omega arith
+rows-cols k (b ∷ bs) = omega (arith, rows-cols k bs, mul-add k (length (b .rows)) (total (map (λ b. length (b .rows)) bs)))
+
+-- ---- how many intervals
+
+-- a property of the blocks of each piece
+each-block : (n : ℕ) (P : Block → Type 0) (d : ℕ) (qs : List Piece) → Every (Suits n) qs → Every (λ q. (d : ℕ) (w : Window) → Inside (sizeOf q) w → P (blockOf d q w)) qs → Every P (blocksFrom d qs)
+unfolding blocksFrom blocksOf
+each-block n P d [] su h = tt
+each-block n P d (q ∷ qs) su h =
+    every-append P (blocksOf d q) (blocksFrom (suc d) qs) (every-map (Inside (sizeOf q)) P (blockOf d q) (windowsOf (sizeOf q)) (h .0 d) (windows-inside (sizeOf q) (su .0 .size-high)))
+    (each-block n P (suc d) qs (su .1) (h .1))
+
+-- no block has more closed columns than a piece has vertices
+pub few-closed : (n : ℕ) (qs : List Piece) → Every (Suits n) qs → Every (FewClosed maxSize) (blocks qs)
+unfolding blocks
+few-closed n qs su = each-block n (FewClosed maxSize) 1 qs su (every-imp (Suits n) _ qs few su)
+  where
+    few : (q : Piece) → Suits n q → (d : ℕ) (w : Window) → Inside (sizeOf q) w → FewClosed maxSize (blockOf d q w)
+    few q s d w i _ = let b : Block = blockOf d q w in omega (arith, closed-few (b .lengths) (length (b .rows)) (length (b .cols)), block-cols d q w, i .cols-in, s .size-high)
+
+-- and none where every entry is a number
+pub open-none : (n : ℕ) (qs : List Piece) → Every (Suits n) qs → Open qs → Every (FewClosed 0) (blocks qs)
+unfolding blocks
+open-none n qs su o = each-block n (FewClosed 0) 1 qs su (every-imp _ _ qs none o)
+  where
+    none : (q : Piece) → ((i j : ℕ) → i < sizeOf q → j < sizeOf q → IsNumber (entry q i j)) → (d : ℕ) (w : Window) → Inside (sizeOf q) w → FewClosed 0 (blockOf d q w)
+    none q f d w i some =
+        let b : Block = blockOf d q w in
+        rw (closed-none (b .lengths) (length (b .rows)) (length (b .cols)) some
+        (λ r c lr lc. rw (entry-at d q w r c (rw block-rows at lr) (rw block-cols at lc)) (f (w .row0 + r) (w .col0 + (w .cols - 1 - c)) (omega (arith, i .rows-in, block-rows d q w)) (omega (arith, i .cols-in, block-cols d q w)))))
+        (le-refl 0)
+
+-- three for each row and two for each column, and one more for each row and each closed column
+pub all-inserted : (n k : ℕ) (qs : List Piece) → Every (Suits n) qs → Every (FewClosed k) (blocks qs) → total (map insertedMost (blocks qs)) ≤ (5 + k) * weight qs
+all-inserted n k qs su few =
+    let each = total-le insertedMost (λ b. (3 + k) * length (b .rows) + 2 * length (b .cols)) (blocks qs) (every-imp (FewClosed k) _ (blocks qs) (inserted-most k) few) in
+    omega (arith, each, rows-cols (3 + k) (blocks qs), mul-le-mul-left (3 + k) (all-rows n qs su), all-cols n qs su, add-mul (3 + k) 2 (weight qs))

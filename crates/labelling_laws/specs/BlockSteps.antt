@@ -16,6 +16,7 @@ use borrow.Author.Tests.{eq-eqb, ne-eqb}
 use lib.ListN.{getD, length, set, length-append, length-map, List·getD-map}
 use lib.Seq.{map-set-same}
 use Rattle.definitions.specs.Limits.{maxVertices, maxLength, maxLabel, sum}
+use Rattle.definitions.specs.Metres.{IsNumber}
 use Rattle.definitions.specs.Lists.{mem, Every}
 use Rattle.definitions.specs.Network.{Rectangle, Walk, stay, then, RouteArc}
 use Rattle.definitions.specs.Blocks.{Block, noBlock}
@@ -26,7 +27,7 @@ use Rattle.definitions.specs.Labelling.{BlockState, extraction, freshBlock, app
 use Rattle.definitions.specs.Laws.Members.{every-imp}
 use Rattle.basics.specs.ListLaws.{every-at, every-set, every-snoc, every-map, every-all, map-same, map-back, Different, different-snoc, at-most}
 use Rattle.heap_laws.specs.Lesser.{From, from-each}
-use Rattle.heap_laws.specs.Parents.{available-parent, parent-row, parent-activated, parent-sum, rowLabel}
+use Rattle.heap_laws.specs.Parents.{available-parent, parent-row, parent-path, parent-activated, parent-sum, rowLabel}
 use Rattle.labelling_laws.specs.Labels.{label-old, label-new, Status, settled, unsettled, status, labelled, unlabelled, own-labels}
 use Rattle.labelling_laws.specs.Activated.{row-settled}
 use Rattle.labelling_laws.specs.Walks.{BlockArc, Arrives}
@@ -151,10 +152,11 @@ module _ (bs : List Block) (n source : ℕ) where
         let from : Labelled level (length (st .settled)) (getD (here .block .rows) p 0) (rowLabel p (m .activated))
         = labelled (getD (here .block .rows) p 0) (Labelled level (length (st .settled))) (rowLabel p (m .activated)) (st .settled) (inv .labels) from-is in
         let is : s ≡ sum (rowLabel p (m .activated)) (e p c) = parent-sum e (m .activated) c p s (good .fine .sound .once) own in
+        let path : IsNumber (e p c) = parent-path e (m .activated) c p s own in
         let arc : BlockArc bs (getD (here .block .rows) p 0) (columnVertex here c) (e p c) = record {
           number = i;
           number-in = rw (← inv .blocks-are) (simp length-map (omega (arith, top .high)));
-          arc = rw (block-at st i (inv .blocks-are)) (record { row = p; col = c; row-in = row-in; col-in = col-in; tail = refl; head = refl; length-is = refl });
+          arc = rw (block-at st i (inv .blocks-are)) (record { row = p; col = c; row-in = row-in; col-in = col-in; tail = refl; head = refl; length-is = refl; some-path = path });
         } in
         record {
           number-in = omega (arith, top .high);
@@ -167,7 +169,7 @@ module _ (bs : List Block) (n source : ℕ) where
             high = (good .fit .cols-in c col-in) .1;
             near = le-refl s;
             walk = rw is (then (from .walk) arc);
-            short = omega (arith, from .short, is, good .fit .short p c row-in col-in);
+            short = omega (arith, from .short, is, good .fit .short p c row-in col-in path);
           };
           arrives = rw (low .here) (record {
             before = rowLabel p (m .activated);

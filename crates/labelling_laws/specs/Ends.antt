@@ -8,7 +8,7 @@ use mathlib.Core.Path.{_≡_, refl, sym, ap, _∙_}
 use mathlib.Core.List.{List, [], _∷_, map, map-map}
 use mathlib.Core.Option.{Option, none, some}
 use mathlib.Core.Logic.{_⊎_, inl, inr}
-use Prim.Native.Nat.{ℕ, zero, suc, _+_, _-_, _*_, _≤_, _<_}
+use Prim.Native.Nat.{ℕ, zero, suc, _+_, _-_, _≤_, _<_}
 use native.Mathlib.Nat.{add-zero}
 use native.Mathlib.Omega.{arith}
 use lib.ListN.{length, set}
@@ -22,7 +22,7 @@ use Rattle.definitions.specs.Labelling.{BlockState, extraction, freshBlock, app
 use Rattle.definitions.specs.Laws.Members.{every-imp}
 use Rattle.basics.specs.ListLaws.{every-map, map-same, total-set, total-le, Different}
 use Rattle.labelling_laws.specs.Labels.{label-new, labelled}
-use Rattle.labelling_laws.specs.OneBlock.{Fit, fresh-fine, Good, Welcome, welcome, activate-extracted, extract-length, extracted-bound, inserted-bound}
+use Rattle.labelling_laws.specs.OneBlock.{Fit, fresh-fine, Good, Welcome, welcome, activate-extracted, extract-length, extracted-bound, insertedMost, inserted-bound}
 use Rattle.labelling_laws.specs.BlockSteps.{blockAt, columnVertex, Labelled, Inv, settled-few, Choice, choice, between, Setting, Holds, steps-hold}
 
 -- ---- each step extracts one column
@@ -68,9 +68,9 @@ module _ (bs : List Block) (n source : ℕ) (st : State) (level : ℕ) (inv : In
   unfolding extractions columns
   extracted-few = bounded (λ s. length (s .trace .model .extracted)) (λ b. length (b .cols)) (extracted-bound n (st .settled) (st .settled) level)
 
-  inserted-few : insertions st ≤ total (map (λ b. 3 * length (b .rows) + 2 * length (b .cols)) bs)
+  inserted-few : insertions st ≤ total (map insertedMost bs)
   unfolding insertions
-  inserted-few = bounded (λ s. s .trace .inserted) (λ b. 3 * length (b .rows) + 2 * length (b .cols)) (inserted-bound n (st .settled) (st .settled) level)
+  inserted-few = bounded (λ s. s .trace .inserted) insertedMost (inserted-bound n (st .settled) (st .settled) level)
 
 module _ (bs : List Block) (n source : ℕ) (given : Setting bs n source) where
   abbrev now : ℕ → State
@@ -150,7 +150,7 @@ module _ (bs : List Block) (n source : ℕ) (given : Setting bs n source) where
   pub extractions-bound : (m : ℕ) → extractions (steps m (start bs source)) ≤ columns bs
   extractions-bound m = let h = held m in extracted-few bs n source (now m) (h .level) (h .inv)
 
-  pub insertions-bound : (m : ℕ) → insertions (steps m (start bs source)) ≤ total (map (λ b. 3 * length (b .rows) + 2 * length (b .cols)) bs)
+  pub insertions-bound : (m : ℕ) → insertions (steps m (start bs source)) ≤ total (map insertedMost bs)
   insertions-bound m = let h = held m in inserted-few bs n source (now m) (h .level) (h .inv)
 
   -- ---- for a program: no activation is refused, at the start and between the extraction and the activations of a step

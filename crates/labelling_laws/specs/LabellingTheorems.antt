@@ -4,26 +4,27 @@
 --   labels-limited held-limited   a label is at most `maxLabel`
 --   labels-are-distances above-n  demand 2: each place of the label buffer
 --   reached-counts                the vertices reached
---   few-extractions few-insertions   the counts
+--   few-extractions insertions-most few-insertions   the counts, the last where every entry is a number
 --   counts-held labels-held written-digits   a listing writes them by their digits
 --   routes route-to-source route-unreached routed route-is-walk   the route to a vertex: document 02, request 4
 --   every-block-a-trace           each block's model is that of a list of calls
---   lent-network lent-route depot-accepted   a network in lent buffers; the depot example
+--   lent-network lent-route depot-accepted gapped-accepted   a network in lent buffers; the depot example
 -- `Accepted n pieces source` says that no cause turns away the network of n vertices with these pieces, nor the source
 -- (judgeBounds, judgePiece and judgeSource, the definitions by which the code judges, are 0).
 use mathlib.Core.Path.{_≡_, refl}
 use mathlib.Core.Bool.{not}
-use mathlib.Core.List.{List, [], _∷_}
+use mathlib.Core.List.{List, [], _∷_, map}
 use mathlib.Core.Logic.{_≢_}
 use mathlib.Core.Option.{none, some}
-use Prim.Native.Nat.{ℕ, suc, _*_, _≤_, _<_}
+use Prim.Native.Nat.{ℕ, suc, _+_, _*_, _≤_, _<_}
 use lib.Dec.{eqb}
 use lib.ListN.{getD, length}
-use Rattle.definitions.specs.Limits.{maxLabel, labelPlaces, columnBytes, unreached}
-use Rattle.definitions.specs.Lists.{count, all, every, mem, different, upFrom, downTo, within, firstCause, Every}
-use Rattle.definitions.specs.Network.{Piece, entry, sizeOf, Arc, Walk, Distance, RouteArc, Route, Routed}
+use Rattle.definitions.specs.Limits.{maxLabel, labelPlaces, columnBytes, unreached, noPath}
+use Rattle.definitions.specs.Metres.{isLength, metresOf, plus, atMost}
+use Rattle.definitions.specs.Lists.{count, total, all, every, mem, different, upFrom, downTo, within, firstCause, Every}
+use Rattle.definitions.specs.Network.{Piece, entry, sizeOf, Open, Arc, Walk, Distance, RouteArc, Route, Routed}
 use Rattle.definitions.specs.Blocks.{splits, splitsOf, windows, windowsOf, rowsOf, columnsOf, blockOf, blocksOf, blocks, passes, weight}
-use Rattle.definitions.specs.Monge.{corners, isMonge}
+use Rattle.definitions.specs.Monge.{corners, isMonge, closed}
 use Rattle.definitions.specs.Best.{nobody}
 use Rattle.definitions.specs.Model.{intervals}
 use Rattle.definitions.specs.Labelling.{labelOf, chosen, steps, start, labelling, reached, extractions, insertions, heldLabel, labels, routeTo}
@@ -32,6 +33,7 @@ use Rattle.definitions.specs.Fields.{maxColumn, decimal, rightJustified, nineCo
 use Rattle.definitions.specs.Entries.{judgeLabelling, routeNetwork}
 use Rattle.definitions.specs.PlainPromises.{PlainRoute}
 use Rattle.labelling_laws.specs.Acceptance.{Accepted}
+use Rattle.labelling_laws.specs.OneBlock.{insertedMost}
 use Rattle.labelling_laws.specs.Ends as ends
 use Rattle.labelling_laws.specs.LoopLaws.{chosen-none}
 use Rattle.labelling_laws.specs.BlockTraces.{Made, made}
@@ -65,10 +67,10 @@ module _ (n : ℕ) (pieces : List Piece) (source : ℕ) (ok : Accepted n pieces 
   held-limited = network.held-limited n pieces source ok
 
   -- Demand 2: place i holds the length of a shortest walk from the source to vertex i + 1, or 4,294,967,295 and there is no walk.
-  -- A label is the length of a walk, that to the parent and one arc more. In the end every block with an activated row has all its
-  -- columns extracted, and the vertex of an extracted column has a label of at most the sum through any activated row, since sums
-  -- are handed out in rising order. Each arc is in one block; so along any walk from the source every vertex is settled, with a label
-  -- of at most the length so far.
+  -- The arcs of a walk are numbers of metres, no path is none. A label is the length of a walk, that to the parent and one arc more: a parent has a path to
+  -- its column. In the end every column to which an activated row of its block has a path is extracted, and the vertex of an extracted column has a label
+  -- of at most the sum through any such row, since sums are handed out in rising order. Each arc is in one block; so along any walk from the source every
+  -- vertex is settled, with a label of at most the length so far.
   pub labels-are-distances : (i : ℕ) → i < labelPlaces → Distance pieces source (suc i) (getD (labels (labelling (blocks pieces) source)) i 0)
   labels-are-distances = network.label-distance n pieces source ok
 
@@ -85,9 +87,16 @@ module _ (n : ℕ) (pieces : List Piece) (source : ℕ) (ok : Accepted n pieces 
   pub few-extractions : extractions (labelling (blocks pieces) source) ≤ weight pieces
   few-extractions = network.extractions-weight n pieces source ok
 
-  -- The count: an activation inserts at most three intervals and an extraction at most two; each row is activated and each column
-  -- extracted at most once; all blocks of a piece have at most m·⌈log₂ m⌉ rows and as many columns.
-  pub few-insertions : insertions (labelling (blocks pieces) source) ≤ 5 * weight pieces
+  -- The count, of every network: an activation inserts at most three intervals more than its block has closed columns and an extraction at most two; each
+  -- row is activated and each column extracted at most once.
+  pub insertions-most : insertions (labelling (blocks pieces) source)
+      ≤ total (map (λ b. (3 + closed (b .lengths) (length (b .rows)) (length (b .cols))) * length (b .rows) + 2 * length (b .cols)) (blocks pieces))
+  unfolding insertedMost
+  insertions-most = network.insertions-most n pieces source ok
+
+  -- Where no table shows that there is no path (document 02, request 7), no block has a closed column; and all blocks of a piece have at most m·⌈log₂ m⌉
+  -- rows and as many columns.
+  pub few-insertions : Open pieces → insertions (labelling (blocks pieces) source) ≤ 5 * weight pieces
   few-insertions = network.insertions-weight n pieces source ok
 
   -- Nine columns hold the four numbers of a listing's first line, and every label.
@@ -146,6 +155,18 @@ depot = record {
 } ∷ []
 
 depot-accepted : Accepted 5 depot 1
-unfolding depot all every mem different upFrom downTo within firstCause splits splitsOf windows windowsOf rowsOf columnsOf corners isMonge entry sizeOf blockOf blocksOf passes
+unfolding depot all every mem different upFrom downTo within firstCause splits splitsOf windows windowsOf rowsOf columnsOf isLength metresOf plus atMost corners isMonge entry sizeOf blockOf blocksOf passes
     judgeBounds judgeSize judgeVertices judgeRow judgeRows judgeBlocks judgeSource judgePiece
 depot-accepted = record { bounds = refl; pieces-pass = (refl, tt); source-passes = refl }
+
+-- So is the same with no path between the vertices 1 and 3.
+gapped : List Piece
+gapped = record {
+  vertices = 1 ∷ 2 ∷ 3 ∷ 4 ∷ [];
+  rows = (0 ∷ 3 ∷ noPath ∷ 5 ∷ []) ∷ (3 ∷ 0 ∷ 4 ∷ 6 ∷ []) ∷ (noPath ∷ 4 ∷ 0 ∷ 2 ∷ []) ∷ (5 ∷ 6 ∷ 2 ∷ 0 ∷ []) ∷ [];
+} ∷ []
+
+gapped-accepted : Accepted 5 gapped 1
+unfolding gapped all every mem different upFrom downTo within firstCause splits splitsOf windows windowsOf rowsOf columnsOf isLength metresOf plus atMost corners isMonge entry sizeOf blockOf blocksOf passes
+    judgeBounds judgeSize judgeVertices judgeRow judgeRows judgeBlocks judgeSource judgePiece
+gapped-accepted = record { bounds = refl; pieces-pass = (refl, tt); source-passes = refl }

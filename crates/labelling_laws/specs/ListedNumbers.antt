@@ -61,7 +61,7 @@ module _ (n : ℕ) (pieces : List Piece) (source : ℕ) (ok : Accepted n pieces 
       let first : source ≤ maxColumn = omega (arith, source-in n source (ok .source-passes) .1, few .0) in
       let second : reached (labelling (blocks pieces) source) ≤ maxColumn = omega arith in
       let third : extractions (labelling (blocks pieces) source) ≤ maxColumn = omega (arith, network.extractions-weight n pieces source ok) in
-      let fourth : insertions (labelling (blocks pieces) source) ≤ maxColumn = omega (arith, network.insertions-weight n pieces source ok) in
+      let fourth : insertions (labelling (blocks pieces) source) ≤ maxColumn = omega (arith, network.insertions-held n pieces source ok) in
       (first, (second, (third, (fourth, tt))))
 
   pub labels-held : (v l : ℕ) → labelOf v ((labelling (blocks pieces) source) .settled) ≡ some l → l ≤ maxColumn

@@ -1,7 +1,8 @@
 -- One block in the labelling: invariants (a), (b) and (d), kept by an activation, by an extraction and by time.
 --   Fit                                        what is asked of a block
 --   Reached Fine fresh-fine later              what holds of its trace
---   Good activate-good extract-good            the same of a block with its trace
+--   insertedMost FewClosed inserted-most       the intervals that all its calls can insert
+--   Good activate-good extract-good            what holds of a block with its trace
 --   Welcome welcome                            no activation is refused
 --   activate-block activate-extracted extract-length
 --   extracted-bound inserted-bound             how many columns, how many intervals
@@ -9,15 +10,17 @@ use mathlib.Core.Path.{_≡_, refl, sym, ap, _∙_}
 use mathlib.Core.Option.{Option, none, some}
 use mathlib.Core.Bool.{true, false, cond, _||_}
 use mathlib.Core.List.{List, [], _∷_, _++_, append-nil}
-use Prim.Native.Nat.{ℕ, suc, _+_, _*_, _≤_, _<_}
-use native.Mathlib.Nat.{le-refl}
+use Prim.Native.Nat.{ℕ, zero, suc, _+_, _*_, _≤_, _<_}
+use native.Mathlib.Nat.{le-refl, mul-le-mul-left, mul-le-mul-right}
 use native.Mathlib.Omega.{arith}
 use borrow.Author.Tests.{eqb-true, lt-leb, le-ltb}
 use lib.Dec.{eqb}
 use lib.ListN.{getD, length, length-append}
 use Rattle.definitions.specs.Limits.{maxLength, maxLabel}
+use Rattle.definitions.specs.Metres.{IsNumber}
 use Rattle.definitions.specs.Lists.{mem, Every}
 use Rattle.definitions.specs.Network.{Rectangle, RouteArc}
+use Rattle.definitions.specs.Monge.{Monge, closed}
 use Rattle.definitions.specs.Blocks.{Block}
 use Rattle.definitions.specs.Best.{Best, nobody, by, lesser, least, leastFrom, Lowest}
 use Rattle.definitions.specs.Laws.LeastLaws.{found-is}
@@ -25,9 +28,8 @@ use Rattle.definitions.specs.Model.{Activation, Model, through, parent, availab
 use Rattle.definitions.specs.Labelling.{BlockState, activation, extraction, freshBlock, apply, leastOf, placeOf, activateAt, activateVertex, Settled, settledAt, labelOf}
 use Rattle.logic.specs.Tests.{clash, Truth, holds, fails, truth, Equal, equal, differ, equality}
 use Rattle.basics.specs.ListLaws.{every-snoc, Different, mem-snoc}
-use Rattle.heap_laws.specs.Inequality.{MongeAll}
 use Rattle.heap_laws.specs.Lesser.{From, from-lesser}
-use Rattle.heap_laws.specs.Parents.{parent-snoc, available-parent}
+use Rattle.heap_laws.specs.Parents.{parent-snoc, through-from, available-parent}
 use Rattle.heap_laws.specs.ModelCalls.{step-activate, step-extract}
 use Rattle.heap_laws.specs.Sound.{Sound, fresh-sound, step-sound, activated-few, extracted-few}
 use Rattle.heap_laws.specs.Extract.{extract-here, extract-other}
@@ -39,8 +41,8 @@ use Rattle.labelling_laws.specs.Activated.{activatedOne, activatedBy, ac
 pub record Fit (n : ℕ) (b : Block) : Type 0 where
   pub rows-differ : Different (b .rows)
   pub cols-in : (c : ℕ) → c < length (b .cols) → (1 ≤ getD (b .cols) c 0) × (getD (b .cols) c 0 ≤ n)
-  pub short : (r c : ℕ) → r < length (b .rows) → c < length (b .cols) → b .lengths r c ≤ maxLength
-  pub monge : MongeAll (b .lengths) (length (b .rows)) (length (b .cols))
+  pub short : (r c : ℕ) → r < length (b .rows) → c < length (b .cols) → IsNumber (b .lengths r c) → b .lengths r c ≤ maxLength
+  pub monge : Monge (b .lengths) (length (b .rows)) (length (b .cols))
 
 -- a vertex has a label, at most `level` and at most the least sum x
 pub record Reached (xs : List Settled) (level v : ℕ) (x : Best) : Type 0 where
@@ -61,7 +63,7 @@ pub record Fine (b : Block) (old xs : List Settled) (level : ℕ) (t : Trace) : 
   pub behind : (c : ℕ) → mem c (t .model .extracted) ≡ true → Reached xs level (getD (b .cols) c 0) (parent (b .lengths) (t .model .activated) c)
   -- every call was done
   pub done : Every (λ a. a .code ≡ 0) (t .answers)
-  pub few : Few t
+  pub few : Few (closed (b .lengths) (length (b .rows)) (length (b .cols))) t
 
 pub fresh-fine : (b : Block) → Fine b [] [] 0 ((freshBlock b) .trace)
 unfolding freshBlock activatedBy available parent least mem
@@ -72,7 +74,7 @@ fresh-fine b = record {
   ahead = λ c l. tt;
   behind = λ c h. absurd (clash h refl);
   done = tt;
-  few = le-refl 0;
+  few = omega arith;
 }
 
 -- more is settled, and sums have grown
@@ -92,7 +94,7 @@ later b old xs ys level level′ t l mono from f = record {
 
 -- ---- a call
 
-module _ (b : Block) (monge : MongeAll (b .lengths) (length (b .rows)) (length (b .cols))) (old xs : List Settled) (level : ℕ) (t : Trace) (f : Fine b old xs level t) where
+module _ (b : Block) (monge : Monge (b .lengths) (length (b .rows)) (length (b .cols))) (old xs : List Settled) (level : ℕ) (t : Trace) (f : Fine b old xs level t) where
   abbrev e : Rectangle
   e = b .lengths
 
@@ -103,7 +105,7 @@ module _ (b : Block) (monge : MongeAll (b .lengths) (length (b .rows)) (length (
   activate-fine : (r : ℕ) → r < length (b .rows) → isActivated r (m .activated) ≡ false → level ≤ maxLabel → (now : List Settled)
       → activatedBy (b .rows) now ≡ activatedBy (b .rows) old ++ record { row = r; label = level } ∷ []
       → Fine b now xs level (extend e (length (b .rows)) (length (b .cols)) t (activation r level))
-  unfolding extend activate available through
+  unfolding extend activate available
   activate-fine r hr fresh-row top now grown =
       let does = step-activate e (length (b .rows)) (length (b .cols)) m (activation r level)
       (record { kind-is = refl; row-in = hr; row-new = fresh-row; high = f .floor; limited = top }) in
@@ -123,14 +125,14 @@ module _ (b : Block) (monge : MongeAll (b .lengths) (length (b .rows)) (length (
       ahead : (c : ℕ) → From level (available e m c) → Truth (mem c (m .extracted))
           → From level (cond (mem c (m .extracted)) nobody (lesser (parent e (m .activated) c) (through e c a)))
       ahead c h (holds u) = simp u tt
-      ahead c h (fails u) = simp u (from-lesser level (parent e (m .activated) c) (through e c a) (simp u at h) (omega arith))
+      ahead c h (fails u) = simp u (from-lesser level (parent e (m .activated) c) (through e c a) (simp u at h) (through-from e c a level (le-refl level)))
 
       behind : (c : ℕ) → mem c (m .extracted) ≡ true → Reached xs level (getD (b .cols) c 0) (parent e (m .activated ++ a ∷ []) c)
       behind c h = let o = f .behind c h in record {
         label = o .label;
         is = o .is;
         near = o .near;
-        least = rw parent-snoc (from-lesser (o .label) (parent e (m .activated) c) (through e c a) (o .least) (omega (arith, o .near)));
+        least = rw parent-snoc (from-lesser (o .label) (parent e (m .activated) c) (through e c a) (o .least) (through-from e c a (o .label) (o .near)));
       }
 
   -- a column of least sum `level` is extracted, and its vertex has a label
@@ -162,6 +164,27 @@ module _ (b : Block) (monge : MongeAll (b .lengths) (length (b .rows)) (length (
       behind j (fails t) h =
           let q : j ≡ c = eqb-true j c (simp t at h) in
           rw q (record { label = l; is = label; near = near; least = rw (available-parent e m c (found .holder) level (found .here)) near })
+
+-- ---- how many intervals all calls on a block insert
+
+-- each row is activated and each column extracted at most once
+unfoldable pub insertedMost : Block → ℕ
+insertedMost b = (3 + closed (b .lengths) (length (b .rows)) (length (b .cols))) * length (b .rows) + 2 * length (b .cols)
+
+-- at most k columns are closed, or there is no row
+abbrev pub FewClosed : ℕ → Block → Type 0
+FewClosed k b = 0 < length (b .rows) → closed (b .lengths) (length (b .rows)) (length (b .cols)) ≤ k
+
+pub inserted-most : (k : ℕ) (b : Block) → FewClosed k b → insertedMost b ≤ (3 + k) * length (b .rows) + 2 * length (b .cols)
+unfolding insertedMost
+inserted-most k b few = go (length (b .rows)) refl
+  where
+    shut : ℕ
+    shut = closed (b .lengths) (length (b .rows)) (length (b .cols))
+
+    go : (r : ℕ) → length (b .rows) ≡ r → (3 + shut) * length (b .rows) + 2 * length (b .cols) ≤ (3 + k) * length (b .rows) + 2 * length (b .cols)
+    go zero q = rw q (omega arith)
+    go (suc r) q = omega (arith, mul-le-mul-right {m = 3 + shut} {n = 3 + k} (length (b .rows)) (omega (arith, few (omega arith))))
 
 -- ---- a block with its trace
 
@@ -231,8 +254,11 @@ module _ (n : ℕ) (old xs : List Settled) (level : ℕ) where
   pub extracted-bound : (s : BlockState) → Good n old xs level s → length (s .trace .model .extracted) ≤ length (s .block .cols)
   extracted-bound s h = extracted-few (h .fine .sound)
 
-  pub inserted-bound : (s : BlockState) → Good n old xs level s → s .trace .inserted ≤ 3 * length (s .block .rows) + 2 * length (s .block .cols)
-  inserted-bound s h = omega (arith, h .fine .few, activated-few (h .fine .sound), extracted-few (h .fine .sound))
+  pub inserted-bound : (s : BlockState) → Good n old xs level s → s .trace .inserted ≤ insertedMost (s .block)
+  unfolding insertedMost
+  inserted-bound s h =
+      let shut = closed (s .block .lengths) (length (s .block .rows)) (length (s .block .cols)) in
+      omega (arith, h .fine .few, mul-le-mul-left (3 + shut) (activated-few (h .fine .sound)), extracted-few (h .fine .sound))
 
 -- ---- what a call leaves as it is, and what it adds
 

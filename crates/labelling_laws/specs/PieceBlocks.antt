@@ -1,7 +1,7 @@
 -- The labelling of an accepted network: its blocks are those of the pieces, so the laws of the labelling of blocks apply.
 --   setting                                 an accepted network is a setting
 --   labels-limited label-distance above-n   labels; a place of the label buffer, as a distance; places above n
---   extractions-weight insertions-weight    the counts, against the sum over the pieces
+--   extractions-weight insertions-most insertions-weight insertions-held    the counts, against the sum over the pieces
 --   reached-count                           the vertices reached are the places that hold a label
 --   route routed                            the arcs to a vertex
 --   route-source route-unreached            none lead to the source or to a vertex that is not settled
@@ -10,26 +10,27 @@ use mathlib.Core.Option.{none, some}
 use mathlib.Core.Bool.{not}
 use mathlib.Core.List.{List, [], _∷_, map}
 use mathlib.Core.Logic.{_≢_}
-use Prim.Native.Nat.{ℕ, suc, _-_, _*_, _≤_, _<_}
+use Prim.Native.Nat.{ℕ, suc, _+_, _-_, _*_, _≤_, _<_}
 use native.Mathlib.Omega.{arith}
 use borrow.Author.Tests.{eq-eqb, ne-eqb}
 use lib.Dec.{eqb}
 use lib.ListN.{getD, length, length-map}
-use Rattle.definitions.specs.Limits.{maxLabel, labelPlaces, unreached}
-use Rattle.definitions.specs.Lists.{count, mem, Every}
-use Rattle.definitions.specs.Network.{Piece, Distance, distance, none, RouteArc, IsArc, verticesOn, Route, Routed}
+use Rattle.definitions.specs.Limits.{maxSize, maxLabel, labelPlaces, unreached}
+use Rattle.definitions.specs.Lists.{count, mem, total, Every}
+use Rattle.definitions.specs.Network.{Piece, Open, Distance, distance, none, RouteArc, IsArc, verticesOn, Route, Routed}
 use Rattle.definitions.specs.Blocks.{blocks, weight}
 use Rattle.definitions.specs.Labelling.{Settled, State, labelOf, columns, labelling, reached, extractions, insertions, heldLabel, labels, routeTo}
 use Rattle.definitions.specs.Laws.Causes.{bounds-in, source-in}
 use Rattle.logic.specs.Tests.{Equal, equal, differ, equality}
 use Rattle.basics.specs.ListLaws.{every-map, Different, is-different, counted, count-same}
 use Rattle.labelling_laws.specs.Labels.{Status, settled, unsettled, status, labelled-mem, unlabelled, arc-none}
+use Rattle.labelling_laws.specs.OneBlock.{insertedMost}
 use Rattle.labelling_laws.specs.Walks.{IsBlockArc}
 use Rattle.labelling_laws.specs.BlockSteps.{Setting}
 use Rattle.labelling_laws.specs.Ends.{labels-short, labels-in, reached-few, vertices-in, vertices-differ, extractions-bound, insertions-bound}
 use Rattle.labelling_laws.specs.Exact.{BlockDistance, labels-exact}
 use Rattle.labelling_laws.specs.Acceptance.{Accepted, Suits, suits}
-use Rattle.labelling_laws.specs.Arcs.{blocks-fit, PieceArc, of-piece, walk-to-blocks, walk-to-pieces, all-rows, all-cols, rows-cols}
+use Rattle.labelling_laws.specs.Arcs.{blocks-fit, PieceArc, of-piece, walk-to-blocks, walk-to-pieces, all-cols, few-closed, open-none, all-inserted}
 use Rattle.labelling_laws.specs.LoopLaws.{labels-at, labels-read}
 use Rattle.labelling_laws.specs.Routes.{joined-map, block-route, source-arc, route-none}
 
@@ -111,15 +112,17 @@ module _ (n : ℕ) (pieces : List Piece) (source : ℕ) (ok : Accepted n pieces 
   unfolding labelling columns
   extractions-weight = omega (arith, extractions-bound (blocks pieces) n source setting (columns (blocks pieces)), all-cols n pieces suited)
 
-  pub insertions-weight : insertions (labelling (blocks pieces) source) ≤ 5 * weight pieces
+  pub insertions-most : insertions (labelling (blocks pieces) source) ≤ total (map insertedMost (blocks pieces))
   unfolding labelling
-  insertions-weight = omega (
-    arith,
-    insertions-bound (blocks pieces) n source setting (columns (blocks pieces)),
-    rows-cols (blocks pieces),
-    all-rows n pieces suited,
-    all-cols n pieces suited,
-  )
+  insertions-most = insertions-bound (blocks pieces) n source setting (columns (blocks pieces))
+
+  -- where every entry is a number
+  pub insertions-weight : Open pieces → insertions (labelling (blocks pieces) source) ≤ 5 * weight pieces
+  insertions-weight o = omega (arith, insertions-most, all-inserted n 0 pieces suited (open-none n pieces suited o))
+
+  -- in any network
+  pub insertions-held : insertions (labelling (blocks pieces) source) ≤ (5 + maxSize) * weight pieces
+  insertions-held = omega (arith, insertions-most, all-inserted n maxSize pieces suited (few-closed n pieces suited))
 
   pub reached-count : reached (labelling (blocks pieces) source) ≡ count (λ i. not (eqb (getD (labels (labelling (blocks pieces) source)) i 0) unreached)) labelPlaces
   unfolding labelling reached heldLabel placesOf

@@ -8,6 +8,7 @@ use mathlib.Core.Option.{some}
 use Prim.Native.Nat.{ℕ, _<_}
 use lib.ListN.{getD, length}
 use Rattle.definitions.specs.Limits.{sum}
+use Rattle.definitions.specs.Metres.{IsNumber}
 use Rattle.definitions.specs.Network.{Walk, stay, then, RouteArc}
 use Rattle.definitions.specs.Blocks.{Block, noBlock}
 use Rattle.definitions.specs.Labelling.{Settled, labelOf}
@@ -20,6 +21,7 @@ pub record ArcOf (b : Block) (u v l : ℕ) : Type 0 where
   pub tail : getD (b .rows) row 0 ≡ u
   pub head : getD (b .cols) col 0 ≡ v
   pub length-is : b .lengths row col ≡ l
+  pub some-path : IsNumber l
 
 -- an arc of one of the blocks
 pub record BlockArc (bs : List Block) (u v l : ℕ) : Type 0 where

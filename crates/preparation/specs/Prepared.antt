@@ -20,7 +20,7 @@ use lib.Seq.{sets}
 use Rattle.definitions.specs.Limits.{maxVertices, maxPieces, maxSize, vertexPlaces, lengthPlaces, rowPlaces}
 use Rattle.definitions.specs.Lists.{total, upFrom, padded, within}
 use Rattle.definitions.specs.Blocks.{Split, Window, windows, windowsOf}
-use Rattle.definitions.specs.HeapWords.{headWords, intervalWords, heapWords}
+use Rattle.definitions.specs.HeapWords.{headWords, placeWords, heapWords}
 
 -- 0 for a piece that the network does not have, and for a size above 24: such a piece has no vertex, no row and no block
 unfoldable pub sizeAt : ℕ → List ℕ → ℕ → ℕ
@@ -141,14 +141,14 @@ pieceColumns = 112
 
 -- the words of the heaps of a piece, and of all heaps
 abbrev pub pieceWords : ℕ
-pieceWords = headWords * pieceBlocks + intervalWords * pieceColumns
+pieceWords = headWords * pieceBlocks + placeWords * pieceColumns
 
 abbrev pub maxWords : ℕ
 maxWords = maxPieces * pieceWords
 
 -- the two blocks of a split have at most 24 columns together
 abbrev pub splitWords : ℕ
-splitWords = 2 * headWords + intervalWords * maxSize
+splitWords = 2 * headWords + placeWords * maxSize
 
 -- what storing blocks from block b on, with their heaps from the word `slot` on, leaves of the numbers; `last` is the word after their heaps
 pub record Stored (before after : List ℕ) (b slot last : ℕ) (xs : List Placement) : Type 0 where

@@ -16,15 +16,15 @@ use bounds::Session;
 use buffers::fill;
 use splits::Split;
 
-// The words of an interval heap: those before its intervals, and those of each interval.
+// The words of an interval heap: those before its intervals, those of each interval, and the marks of the columns.
 pub struct HeapWords;
 
 impl HeapWords {
     // how many intervals there are
     pub const COUNT: usize = 0;
 
-    // whether a row is activated
-    pub const MARK: usize = 1;
+    // how many columns are reached: an activated row has a path there
+    pub const REACHED: usize = 1;
 
     pub const HEAD: usize = 2;
 
@@ -39,7 +39,11 @@ impl HeapWords {
 
     pub const BEST_SUM: usize = 4;
 
-    pub const INTERVAL: usize = Session::INTERVAL_SIZE;
+    // behind interval k stands the mark of column k: 1 if it is reached, else 0
+    pub const MARK: usize = Session::INTERVAL_SIZE;
+
+    // the words of an interval and of a mark
+    pub const PLACE: usize = HeapWords::MARK + 1;
 }
 
 // How many places the arrays below have, and where each table begins in the one array of tables.
@@ -77,7 +81,7 @@ impl Prepared {
 
     // the words of the heaps of a piece, and of all heaps
     const PIECE_WORDS: usize = HeapWords::HEAD * Prepared::PIECE_BLOCKS
-        + HeapWords::INTERVAL * Prepared::PIECE_COLUMNS;
+        + HeapWords::PLACE * Prepared::PIECE_COLUMNS;
 
     pub const WORDS: usize = Network::SIZE_PLACES * Prepared::PIECE_WORDS;
 
@@ -257,7 +261,7 @@ fn store_part(
     parts[at + Prepared::COLS] = cols as u32;
     parts[at + Prepared::LAST] = (Network::ROW_PLACES * d + (end - 1)) as u32;
     parts[at + Prepared::ROWS] = rows as u32;
-    slot + (HeapWords::HEAD + HeapWords::INTERVAL * cols) as u32
+    slot + (HeapWords::HEAD + HeapWords::PLACE * cols) as u32
 }
 
 // The numbers of blocks b and b + 1, which a split gives.

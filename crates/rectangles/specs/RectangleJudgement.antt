@@ -11,18 +11,19 @@ use mathlib.Core.Bool.{Bool, true, false, cond, _&&_}
 use mathlib.Core.List.{List, [], _∷_, _++_}
 use mathlib.Core.Logic.{_≢_}
 use Prim.Native.Nat.{ℕ, _≤_, _<_}
-use borrow.Author.Tests.{eq-eqb, ne-eqb, leb-true}
-use lib.Dec.{eqb, leb}
+use borrow.Author.Tests.{eq-eqb, ne-eqb}
+use lib.Dec.{eqb}
 use Rattle.definitions.specs.Limits.{maxSide, maxLength}
 use Rattle.definitions.specs.Lists.{all, within, firstCause}
+use Rattle.definitions.specs.Metres.{IsNumber, isLength}
 use Rattle.definitions.specs.Monge.{isMonge}
 use Rattle.definitions.specs.Entries.{rectangleOf, judgeSides, judgeRectangle}
-use Rattle.definitions.specs.Laws.Causes.{refused, last, no-cause, test-holds, within-is}
+use Rattle.definitions.specs.Laws.Causes.{refused, last, no-cause, test-holds, within-is, length-short}
 use Rattle.definitions.specs.Laws.Members.{all-at}
 use Rattle.logic.specs.Tests.{and-left, and-right, Equal, equal, differ, equality}
 
 unfoldable pub rowFits : List ℕ → ℕ → ℕ → Bool
-rowFits lengths cols i = all (λ k. leb (rectangleOf lengths i k) maxLength) cols
+rowFits lengths cols i = all (λ k. isLength (rectangleOf lengths i k)) cols
 
 unfoldable pub lengthsFit : List ℕ → ℕ → ℕ → Bool
 lengthsFit lengths rows cols = all (rowFits lengths cols) rows
@@ -31,7 +32,7 @@ lengthsFit lengths rows cols = all (rowFits lengths cols) rows
 unfoldable pub judgeLengths : ℕ → ℕ → List ℕ → ℕ
 judgeLengths rows cols lengths =
     firstCause (judgeSides rows cols
-    ∷ cond (all (λ i. all (λ k. leb (rectangleOf lengths i k) maxLength) cols) rows) 0 6
+    ∷ cond (all (λ i. all (λ k. isLength (rectangleOf lengths i k)) cols) rows) 0 6
     ∷ [])
 
 -- the causes of two lists, one behind the other
@@ -88,10 +89,10 @@ module _ (rows cols : ℕ) (lengths : List ℕ) where
   unfolding judgeLengths lengthsFit rowFits firstCause
   judged-none cause e z f = rw (← e, z, f)
 
-  -- the sides and the lengths are within their limits
+  -- the sides are within their limits, and so are the lengths that are numbers
   pub record Lengths : Type 0 where
     pub sides-fit : Sides rows cols
-    pub short : (i k : ℕ) → i < rows → k < cols → rectangleOf lengths i k ≤ maxLength
+    pub short : (i k : ℕ) → i < rows → k < cols → IsNumber (rectangleOf lengths i k) → rectangleOf lengths i k ≤ maxLength
 
   pub lengths-in : Early ≡ 0 → Lengths
   unfolding judgeLengths
@@ -99,7 +100,7 @@ module _ (rows cols : ℕ) (lengths : List ℕ) where
       let n = no-cause _ e in
       record {
         sides-fit = sides-in rows cols (n .0);
-        short = λ i k l r. leb-true (rectangleOf lengths i k) maxLength (all-at (λ k. leb (rectangleOf lengths i k) maxLength) cols (all-at (λ i. all (λ k. leb (rectangleOf lengths i k) maxLength) cols) rows (test-holds _ 5 (n .1 .0)) i l) k r);
+        short = λ i k l r. length-short (rectangleOf lengths i k) (all-at (λ k. isLength (rectangleOf lengths i k)) cols (all-at (λ i. all (λ k. isLength (rectangleOf lengths i k)) cols) rows (test-holds _ 5 (n .1 .0)) i l) k r);
       }
 
   -- ---- the inequality
@@ -108,7 +109,7 @@ module _ (rows cols : ℕ) (lengths : List ℕ) where
   pub judged-rectangle : Whole ≡ cond (eqb Early 0) (cond Passes 0 7) Early
   unfolding judgeRectangle judgeLengths
   judged-rectangle =
-      let early = judgeSides rows cols ∷ cond (all (λ i. all (λ k. leb (rectangleOf lengths i k) maxLength) cols) rows) 0 6 ∷ [] in
+      let early = judgeSides rows cols ∷ cond (all (λ i. all (λ k. isLength (rectangleOf lengths i k)) cols) rows) 0 6 ∷ [] in
       first-append early (cond Passes 0 7 ∷ []) ∙ ap (λ x. cond (eqb (firstCause early) 0) x (firstCause early)) (last (cond Passes 0 7))
 
   pub judged-early : (cause : ℕ) → cause ≡ Early → cause ≢ 0 → cause ≡ Whole

@@ -64,14 +64,14 @@ pub fn judge_sides(rows: u32, cols: u32) -> u32
     Cause::BOUNDS
 }
 
-// Whether the used lengths of row i are within the limit.
+// Whether a table may hold the used lengths of row i.
 fn row_fits(lengths: &[u32], i: usize, cols: usize) -> bool
     requires { ⌜ (i < maxSide) × (cols ≤ rowPlaces) ⌝ }
     ensures { λ r. ⌜ r ≡ rowFits (now (lengths .entry)) cols i ⌝ }
 {
     let mut k = 0;
     while k < cols {
-        if entry_at(lengths, i as u32, k) > Network::MAX_LENGTH {
+        if !judgements::is_length(entry_at(lengths, i as u32, k)) {
             return false;
         }
         k += 1;
@@ -79,7 +79,7 @@ fn row_fits(lengths: &[u32], i: usize, cols: usize) -> bool
     true
 }
 
-// Whether all used lengths are within the limit.
+// Whether a table may hold all used lengths.
 fn lengths_fit(lengths: &[u32], rows: usize, cols: usize) -> bool
     requires { ⌜ (rows ≤ maxSide) × (cols ≤ rowPlaces) ⌝ }
     ensures { λ r. ⌜ r ≡ lengthsFit (now (lengths .entry)) rows cols ⌝ }

@@ -22,7 +22,7 @@ use Rattle.definitions.specs.Limits.{maxSize, sizePlaces, vertexPlaces, lengthP
 use Rattle.definitions.specs.Lists.{padded, total, within, Every}
 use Rattle.definitions.specs.Network.{Piece, sizeOf}
 use Rattle.definitions.specs.Judgement.{judgeSize, judgeVertices, judgeBlocks}
-use Rattle.definitions.specs.Fields.{fieldBytes, fieldAt}
+use Rattle.definitions.specs.Fields.{fieldBytes, fieldOf, fieldAt}
 use Rattle.definitions.specs.Reading.{refused, value, require, readField, readLine, lineBytes, readRows, readPiece, pieceBytes, readPieces}
 use Rattle.definitions.specs.Text.{sizesOf, verticesOf, tableOf, lengthsOf}
 use Rattle.definitions.specs.Laws.Members.{every-imp}
@@ -143,7 +143,7 @@ size-facts text at c m came z =
     let b = bind-value (require (judgeSize (a .0))) _ (d .0) (a .2) in
     let same : a .0 ≡ m = value-same (a .0) (d .0) (b .2) ∙ sym (d .2) in
     let bounds = size-in (a .0) (require-value (judgeSize (a .0)) (b .0) (b .1)) in
-    record { low = omega (arith, same, bounds); high = omega (arith, same, bounds); inside = field-in fieldAt field-inside text at (a .0) (a .1) }
+    record { low = omega (arith, same, bounds); high = omega (arith, same, bounds); inside = field-in fieldAt (field-inside fieldOf) text at (a .0) (a .1) }
 
 -- the bytes of a table's lines: at most those of the largest table, so that a place behind them fits its type
 abbrev pub maxTableBytes : ℕ

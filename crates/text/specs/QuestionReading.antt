@@ -24,7 +24,8 @@ use Rattle.definitions.specs.Reading.{Read, value, _>>=_, require, judgeLineEnd
 use Rattle.definitions.specs.Entries.{heldTarget}
 use Rattle.definitions.specs.Laws.Causes.{no-cause, refused, passed, last}
 use Rattle.definitions.specs.Laws.FieldBound.{maxField}
-use Rattle.definitions.specs.Laws.LineBack.{line-small}
+use Rattle.definitions.specs.Laws.FieldKinds.{plain-fields}
+use Rattle.definitions.specs.Laws.LineProofs.{line-written}
 use Rattle.text.specs.Outcomes.{Came}
 use Rattle.text.specs.ReadSteps.{require-two}
 use Rattle.text.specs.Returns.{came-out, came-go}
@@ -117,7 +118,7 @@ module _ (text : List ℕ) (n at k c : ℕ) (fields : List ℕ) (came : Came (re
     line-is = let d = came .done ok in d .1 ∙ ap value (sym (d .2))
 
     target-is : askedTarget target ≡ targetIn fields
-    target-is = ap askedTarget second ∙ asked-held fields (line-small fieldAt (λ t i. refl) text at k fields line-is)
+    target-is = ap askedTarget second ∙ asked-held fields (line-written plain-fields text at k fields line-is .1)
 
     module _ (j : ℕ) (judgement : j ≡ firstCause (judgeSource n source ∷ judgeAsked n (askedTarget target) ∷ [])) where
       pub question-judged : j ≢ 0 → Came (readQuestionLine text n at k) j (Asks source target)

@@ -1,9 +1,10 @@
 -- Reading front to back, one step more: what a loop over fields, rows or pieces needs.
 --   after after-after                 what is read behind what is in hand
 --   Inside field-inside field-in fields-in   a field, and a line's fields, lie in the text
---   fields-turn fields-stop           one field more
+--   FieldsGoing fields-next fields-stop      the loop over a line's fields: one field more, or no field
+--   NumbersGoing NumbersRead numbers-..      the same of numbers, for each reading that agrees with a field's where that is a number
 --   require-stop require-two          a cause, and the first of two
---   line-go line-stop line-open       a line from its fields
+--   end-there end-other end-past      the byte at a line's end
 --   judged                            a line that is judged when it is read
 --   rows-go rows-stop pieces-..       one row more, one piece more
 --   readSized piece-.. vertices-stop table-..   a piece, part by part
@@ -14,17 +15,18 @@ use Prim.Native.Nat.{ℕ, zero, suc, _+_, _-_, _*_, _≤_, _<_}
 use native.Mathlib.Omega.{arith}
 use borrow.Author.Tests.{leb-true, eq-eqb, ne-eqb}
 use lib.Dec.{leb}
-use lib.ListN.{getD, length, take, set}
+use lib.ListN.{getD, length, take, set, length-set, List·getD-eq-default}
 use lib.Seq.{take-suc-set}
 use native.Mathlib.Numerals.{add-one}
 use Rattle.logic.specs.Tests.{Truth, holds, fails, truth}
 use Rattle.definitions.specs.Lists.{firstCause}
 use Rattle.definitions.specs.Network.{Piece}
 use Rattle.definitions.specs.Judgement.{judgeSize, judgeVertices, judgeRow, judgeBlocks}
-use Rattle.definitions.specs.Fields.{lineEnd, fieldBytes, aField, noField, fieldAt, lengthAt}
+use Rattle.definitions.specs.Fields.{lineEnd, fieldBytes, FieldAnswer, aField, noField, fieldOf, sixAt, fieldAt, lengthAt}
 use Rattle.definitions.specs.Reading.{require, readRows, readPiece, pieceBytes, readPieces, FieldReading, Read, refused, value, _>>=_, readField, readFields, judgeLineEnd, readLine, lineBytes}
 use Rattle.definitions.specs.Laws.Causes.{refused as first, last}
 use Rattle.definitions.specs.Laws.ReadLaws.{bind-value, require-value}
+use Rattle.definitions.specs.Laws.FieldKinds.{Agrees, agrees-at}
 
 -- what is in hand, and then what is read
 unfoldable pub after : {A : Type 0} → List A → Read (List A) → Read (List A)
@@ -56,9 +58,9 @@ field-stop field text at e = rw e
 abbrev pub Inside : FieldReading → Type 0
 Inside field = (text : List ℕ) (at : ℕ) → (field text at) .number ≡ 0 → at + fieldBytes ≤ length text
 
-pub field-inside : Inside fieldAt
-unfolding fieldAt
-field-inside text at e = go (truth (leb (at + fieldBytes) (length text)))
+pub field-inside : (says : List ℕ → FieldAnswer) → Inside (sixAt says)
+unfolding sixAt
+field-inside says text at e = go (truth (leb (at + fieldBytes) (length text)))
   where
     go : Truth (leb (at + fieldBytes) (length text)) → at + fieldBytes ≤ length text
     go (holds t) = leb-true (at + fieldBytes) (length text) t
@@ -78,14 +80,44 @@ pub fields-stop : (field : FieldReading) (text : List ℕ) (at k : ℕ) → fiel
 unfolding readFields
 fields-stop field text at k e = rw (field-stop field text at e)
 
--- what a loop has read, with one field more
-pub fields-turn : (field : FieldReading) (text : List ℕ) (at k i place x : ℕ) (out : List ℕ) → i < k → length out ≡ k → field text place ≡ aField x
-    → readFields field text at k ≡ after (take i out) (readFields field text place (k - i))
-    → readFields field text at k ≡ after (take (i + 1) (set out i x)) (readFields field text (place + fieldBytes) (k - (i + 1)))
-fields-turn field text at k i place x out h l e q =
-    let z : k - i ≡ suc (k - (i + 1)) = (omega arith) in
-    let b : i < length out = (omega arith) in
-    q ∙ rw (z, fields-go field text place (k - (i + 1)) x e, after-after, add-one i, take-suc-set out i x b)
+-- i of k fields are in their places, and the next stands at a place of the text
+abbrev pub FieldsGoing : FieldReading → List ℕ → ℕ → ℕ → ℕ → ℕ → List ℕ → Type 0
+FieldsGoing field text at k i place out =
+    (i ≤ k) × (length out ≡ k) × (place ≤ length text) × (readFields field text at k ≡ after (take i out) (readFields field text place (k - i)))
+
+pub fields-next : (says : List ℕ → FieldAnswer) (text : List ℕ) (at k i place x : ℕ) (out : List ℕ) → FieldsGoing (sixAt says) text at k i place out → i < length out → sixAt says text place ≡ aField x
+    → FieldsGoing (sixAt says) text at k (i + 1) (place + fieldBytes) (set out i x)
+fields-next says text at k i place x out g h e =
+    let z : k - i ≡ suc (k - (i + 1)) = omega (arith, g .1) in
+    let inside = field-inside says text place (ap (λ (f : FieldAnswer). f .number) e) in
+    (omega (arith, g .1), length-set out i x ∙ g .1, inside, g .3 ∙ rw (z, fields-go (sixAt says) text place (k - (i + 1)) x e, after-after, add-one i, take-suc-set out i x h))
+
+-- i of k numbers are in their places: so they are for each reading that says what a field says, where that is a number
+abbrev pub NumbersGoing : List ℕ → ℕ → ℕ → ℕ → ℕ → List ℕ → Type 0
+NumbersGoing text at k i place out =
+    (i ≤ k) × (length out ≡ k) × (place ≤ length text) × (place ≡ at + fieldBytes * i) × ((says : List ℕ → FieldAnswer) → Agrees says → FieldsGoing (sixAt says) text at k i place out)
+
+-- they are all, or the next is no number
+pub record NumbersRead (text : List ℕ) (at k i : ℕ) (out : List ℕ) : Type 0 where
+  pub going : (says : List ℕ → FieldAnswer) → Agrees says → FieldsGoing (sixAt says) text at k i (at + fieldBytes * i) out
+  pub ends : i < k → fieldAt text (at + fieldBytes * i) ≡ noField
+
+pub numbers-begun : (text : List ℕ) (at k : ℕ) (out : List ℕ) → length out ≡ k → at ≤ length text → NumbersGoing text at k 0 at out
+numbers-begun text at k out l h =
+    let z : k - 0 ≡ k = omega arith in
+    let y : at ≡ at + fieldBytes * 0 = omega arith in
+    (omega arith, l, h, y, λ says agrees. (omega arith, l, h, rw z (sym (after-none (readFields (sixAt says) text at k)))))
+
+pub numbers-next : (text : List ℕ) (at k i place x : ℕ) (out : List ℕ) → NumbersGoing text at k i place out → i < length out → fieldAt text place ≡ aField x
+    → NumbersGoing text at k (i + 1) (place + fieldBytes) (set out i x)
+numbers-next text at k i place x out g h e =
+    let next : (says : List ℕ → FieldAnswer) → Agrees says → FieldsGoing (sixAt says) text at k (i + 1) (place + fieldBytes) (set out i x)
+    = λ says agrees. fields-next says text at k i place x out (g .4 says agrees) h (agrees-at says agrees text place x e) in
+    let own = next fieldOf (λ bytes y q. q) in
+    (own .0, own .1, own .2, omega (arith, g .3), next)
+
+pub numbers-done : (text : List ℕ) (at k i place : ℕ) (out : List ℕ) → NumbersGoing text at k i place out → (i < k → fieldAt text place ≡ noField) → NumbersRead text at k i out
+numbers-done text at k i place out g e = record { going = rw (← g .3) (g .4); ends = rw (← g .3) e }
 
 pub fields-in : (field : FieldReading) → Inside field → (text : List ℕ) (at k : ℕ) (xs : List ℕ) → readFields field text at k ≡ value xs → at ≤ length text → at + fieldBytes * k ≤ length text
 unfolding readFields
@@ -108,20 +140,22 @@ require-two zero zero k r e h = absurd (h e)
 require-two zero (suc b) k r e h = ap refused (sym (e ∙ last (suc b)))
 require-two (suc a) b k r e h = ap refused (sym (e ∙ first (suc a) (b ∷ []) (λ z. omega arith)))
 
--- ---- a line
+-- ---- the byte at a line's end
 
-module _ (field : FieldReading) (text : List ℕ) (at k : ℕ) where
-  pub line-go : (xs : List ℕ) → readFields field text at k ≡ value xs → getD text (at + fieldBytes * k) 0 ≡ lineEnd → readLine field text at k ≡ value xs
-  unfolding readLine judgeLineEnd
-  line-go xs e t = rw (e, eq-eqb _ _ t)
+module _ (text : List ℕ) (at : ℕ) where
+  pub end-there : getD text at 0 ≡ lineEnd → 0 ≡ judgeLineEnd text at
+  unfolding judgeLineEnd
+  end-there h = rw (eq-eqb _ _ h)
 
-  pub line-stop : (j : ℕ) → readFields field text at k ≡ refused j → readLine field text at k ≡ refused j
-  unfolding readLine
-  line-stop j e = rw e
+  pub end-other : getD text at 0 ≢ lineEnd → 3 ≡ judgeLineEnd text at
+  unfolding judgeLineEnd
+  end-other h = rw (ne-eqb _ _ h)
 
-  pub line-open : (xs : List ℕ) → readFields field text at k ≡ value xs → getD text (at + fieldBytes * k) 0 ≢ lineEnd → readLine field text at k ≡ refused 3
-  unfolding readLine judgeLineEnd
-  line-open xs e t = rw (e, ne-eqb _ _ t)
+  -- none past the text's end
+  pub end-past : length text ≤ at → 3 ≡ judgeLineEnd text at
+  end-past h = end-other (λ e. omega (arith, List·getD-eq-default text 0 {n = at} h))
+
+-- ---- judged
 
 -- what is read, judged
 unfoldable pub judged : {A : Type 0} → (A → ℕ) → Read A → Read A

@@ -1,19 +1,20 @@
 -- What the code's returns need: a promise kept from the laws of reading.
 --   came-out came-go          a refusal, a value
 --   fields-broken fields-ended   the loop over a line's fields stops, or ends
---   line-..                   a line, from its fields and the byte behind them
+--   numbers-few numbers-all   of a line's fields the numbers that stand first are some, or all
 --   came-judged judged-refused   what is judged when it is read
+--   line-..                   a line, from its fields and the byte behind them
 use mathlib.Core.Path.{_≡_, refl, sym, ap, _∙_}
 use mathlib.Core.Logic.{_≢_}
 use mathlib.Core.List.{List, append-nil}
 use Prim.Native.Nat.{ℕ, suc, _+_, _-_, _*_, _≤_, _<_}
 use native.Mathlib.Omega.{arith}
-use lib.ListN.{getD, length, take, List·getD-eq-default}
+use lib.ListN.{length, take}
 use lib.Seq.{take-all}
-use Rattle.definitions.specs.Fields.{lineEnd, fieldBytes, noField}
-use Rattle.definitions.specs.Reading.{FieldReading, Read, refused, value, readFields, readLine}
+use Rattle.definitions.specs.Fields.{fieldBytes, noField, fieldOf, fieldAt}
+use Rattle.definitions.specs.Reading.{FieldReading, Read, refused, value, readFields, judgeLineEnd, readLine}
 use Rattle.text.specs.Outcomes.{Came}
-use Rattle.text.specs.ReadSteps.{judged, judged-go, judged-out, judged-stop, after, Inside, fields-stop, fields-in, line-go, line-stop, line-open}
+use Rattle.text.specs.ReadSteps.{FieldsGoing, NumbersRead, judged, judged-go, judged-out, judged-stop, after, Inside, fields-stop, fields-in}
 
 module _ {A : Type 0} (read : Read A) (Shows : A → Type 0) where
   pub came-out : (k : ℕ) → k ≢ 0 → read ≡ refused k → Came read k Shows
@@ -37,25 +38,17 @@ module _ (field : FieldReading) (text : List ℕ) (at k i place : ℕ) (out : Li
       let t : take i out ≡ out = take-all i out (omega arith) in
       came-go (readFields field text at k) (λ xs. out ≡ xs) out (so-far ∙ rw (z, t, append-nil)) refl
 
-module _ (field : FieldReading) (text : List ℕ) (at k c : ℕ) (out : List ℕ) (came : Came (readFields field text at k) c (λ xs. out ≡ xs)) where
-  pub line-refused : c ≢ 0 → Came (readLine field text at k) c (λ xs. out ≡ xs)
-  line-refused h = came-out (readLine field text at k) (λ xs. out ≡ xs) c h (line-stop field text at k c (came .stopped h))
+module _ (text : List ℕ) (at k i : ℕ) (out : List ℕ) (numbers : NumbersRead text at k i out) where
+  own : FieldsGoing fieldAt text at k i (at + fieldBytes * i) out
+  own = numbers .going fieldOf (λ bytes x e. e)
 
-  module _ (ok : c ≡ 0) where
-    read : readFields field text at k ≡ value out
-    read = let d = came .done ok in d .1 ∙ ap value (sym (d .2))
+  pub numbers-few : i < length out → Came (readFields fieldAt text at k) 3 (λ xs. out ≡ xs)
+  numbers-few h =
+      let few : i < k = omega (arith, own .1) in
+      fields-broken fieldAt text at k i (at + fieldBytes * i) out (own .3) few (numbers .ends few)
 
-    pub line-in : Inside field → at ≤ length text → at + fieldBytes * k ≤ length text
-    line-in inside h = fields-in field inside text at k out read h
-
-    pub line-other : getD text (at + fieldBytes * k) 0 ≢ lineEnd → Came (readLine field text at k) 3 (λ xs. out ≡ xs)
-    line-other h = let three : _≢_ {A = ℕ} 3 0 = λ w. omega arith in came-out (readLine field text at k) (λ xs. out ≡ xs) 3 three (line-open field text at k out read h)
-
-    pub line-short : length text ≤ at + fieldBytes * k → Came (readLine field text at k) 3 (λ xs. out ≡ xs)
-    line-short h = line-other (λ e. omega (arith, List·getD-eq-default text 0 {n = at + fieldBytes * k} h))
-
-    pub line-closed : getD text (at + fieldBytes * k) 0 ≡ lineEnd → Came (readLine field text at k) 0 (λ xs. out ≡ xs)
-    line-closed h = came-go (readLine field text at k) (λ xs. out ≡ xs) out (line-go field text at k out read h) refl
+  pub numbers-all : length out ≤ i → Came (readFields fieldAt text at k) 0 (λ xs. out ≡ xs)
+  numbers-all h = fields-ended fieldAt text at k i (at + fieldBytes * i) out (own .3) (omega (arith, own .0, own .1)) (own .1)
 
 -- ---- judged
 
@@ -71,3 +64,18 @@ module _ (cause : List ℕ → ℕ) (read : Read (List ℕ)) (c : ℕ) (out : Li
 
   pub judged-then : c ≡ 0 → (k : ℕ) → k ≡ cause out → Came (judged cause read) k (λ xs. out ≡ xs)
   judged-then z k q = let d = came .done z in came-judged cause read (λ xs. out ≡ xs) out k (d .1 ∙ ap value (sym (d .2))) q refl
+
+-- ---- a line, which is its fields, judged by the byte behind them
+
+module _ (field : FieldReading) (text : List ℕ) (at k c : ℕ) (out : List ℕ) (came : Came (readFields field text at k) c (λ xs. out ≡ xs)) where
+  pub line-refused : c ≢ 0 → Came (readLine field text at k) c (λ xs. out ≡ xs)
+  unfolding readLine judged
+  line-refused h = judged-refused (λ _. judgeLineEnd text (at + fieldBytes * k)) (readFields field text at k) c out came h
+
+  module _ (ok : c ≡ 0) where
+    pub line-in : Inside field → at ≤ length text → at + fieldBytes * k ≤ length text
+    line-in inside h = let d = came .done ok in fields-in field inside text at k (d .0) (d .1) h
+
+    pub line-then : (j : ℕ) → j ≡ judgeLineEnd text (at + fieldBytes * k) → Came (readLine field text at k) j (λ xs. out ≡ xs)
+    unfolding readLine judged
+    line-then j e = judged-then (λ _. judgeLineEnd text (at + fieldBytes * k)) (readFields field text at k) c out came ok j e

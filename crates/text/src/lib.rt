@@ -9,10 +9,10 @@ ghost use Rattle.definitions.specs.Limits.{maxSize, sizePlaces, tablePlaces};
 ghost use Rattle.definitions.specs.Lists.{firstCause};
 ghost use Rattle.definitions.specs.Judgement.{judgeSize, judgeVertices, judgeRow, judgeSource};
 ghost use Rattle.definitions.specs.Fields.{fieldBytes, fieldAt, lengthAt};
-ghost use Rattle.definitions.specs.Reading.{lineBytes, readField, readFields, readLine, readRows, readPieces, targetIn, questionSize, judgeAsked, readQuestion, readBody, readPlan};
+ghost use Rattle.definitions.specs.Reading.{lineBytes, readField, readFields, judgeLineEnd, readLine, readRows, readPieces, targetIn, questionSize, judgeAsked, readQuestion, readBody, readPlan};
 ghost use Rattle.definitions.specs.Entries.{readRefusal, heldTarget, reading};
 ghost use Rattle.text.specs.Outcomes.{Came, RowsLeft};
-ghost use Rattle.text.specs.ReadSteps.{judged, readSized};
+ghost use Rattle.text.specs.ReadSteps.{NumbersRead, judged, readSized};
 ghost use Rattle.text.specs.PieceReading.{Held, Room, Free, TableRead, SizedLeft, ReadPieceLeaves, PiecesLeft};
 ghost use Rattle.text.specs.QuestionReading.{askedTarget, Asks, readQuestionLine};
 ghost use Rattle.text.specs.Plans.{PlanRead};
@@ -21,23 +21,70 @@ use bounds::Network;
 use bounds::Text;
 use buffers::fill;
 use definitions::Field;
+use definitions::Length;
 use definitions::ReadAnswer;
 
-// The fields of a line from `at` on, as many as `out` has places; 3 if one is not a field.
-fn read_fields(text: &[u8], at: usize, out: &mut [u32]) -> u32
+// The fields of a line from `at` on, as many as `out` has places, up to the first that is no number: how many these are.
+fn read_numbers(text: &[u8], at: usize, out: &mut [u32]) -> usize
     requires { ⌜ at ≤ length (now text) ⌝ }
-    ensures { λ r. ⌜ Came (readFields fieldAt (now (text .entry)) at (length (now (out .entry)))) r (λ xs. now (out .exit) ≡ xs) ⌝ }
+    ensures { λ r. ⌜ NumbersRead (now (text .entry)) at (length (now (out .entry))) r (now (out .exit)) ⌝ }
 {
     let mut i = 0;
     let mut place = at;
     while i < out.len() {
         let field = field_reader::field_at(text, place);
         let Field::Number(x) = field else {
-            return Cause::LAYOUT;
+            return i;
         };
         out[i] = x;
         place += Text::FIELD_BYTES;
         i += 1;
+    }
+    i
+}
+
+// The fields of a line from `at` on, as many as `out` has places; 3 if one is not a field.
+fn read_fields(text: &[u8], at: usize, out: &mut [u32]) -> u32
+    requires { ⌜ at ≤ length (now text) ⌝ }
+    ensures { λ r. ⌜ Came (readFields fieldAt (now (text .entry)) at (length (now (out .entry)))) r (λ xs. now (out .exit) ≡ xs) ⌝ }
+{
+    let numbers = read_numbers(text, at, out);
+    if numbers < out.len() {
+        return Cause::LAYOUT;
+    }
+    Cause::NONE
+}
+
+// The same of lengths; 3 if one is neither a number nor `-`. Only from a line's first `-` on is it looked for.
+fn read_length_fields(text: &[u8], at: usize, out: &mut [u32]) -> u32
+    requires { ⌜ at ≤ length (now text) ⌝ }
+    ensures { λ r. ⌜ Came (readFields lengthAt (now (text .entry)) at (length (now (out .entry)))) r (λ xs. now (out .exit) ≡ xs) ⌝ }
+{
+    let mut i = read_numbers(text, at, out);
+    let mut place = at + Text::FIELD_BYTES * i;
+    while i < out.len() {
+        let length = field_reader::length_at(text, place);
+        let x = match length {
+            Length::Number(x) => x,
+            Length::NoPath => Network::NO_PATH,
+            Length::Malformed => return Cause::LAYOUT,
+        };
+        out[i] = x;
+        place += Text::FIELD_BYTES;
+        i += 1;
+    }
+    Cause::NONE
+}
+
+// The byte 10 at a line's end; past the text's end there is none.
+fn judge_line_end(text: &[u8], at: usize) -> u32
+    ensures { λ r. ⌜ r ≡ judgeLineEnd (now (text .entry)) at ⌝ }
+{
+    if at >= text.len() {
+        return Cause::LAYOUT;
+    }
+    if text[at] != b'\n' {
+        return Cause::LAYOUT;
     }
     Cause::NONE
 }
@@ -52,22 +99,20 @@ fn read_line(text: &[u8], at: usize, out: &mut [u32]) -> u32
     if cause != Cause::NONE {
         return cause;
     }
-    let end = at + Text::FIELD_BYTES * k;
-    if end >= text.len() {
-        return Cause::LAYOUT;
-    }
-    if text[end] != b'\n' {
-        return Cause::LAYOUT;
-    }
-    Cause::NONE
+    judge_line_end(text, at + Text::FIELD_BYTES * k)
 }
 
-// A line of lengths: today each is a number, like any other field.
+// The layout of a line of lengths: these, then one byte 10.
 fn read_lengths(text: &[u8], at: usize, out: &mut [u32]) -> u32
     requires { ⌜ at ≤ length (now text) ⌝ }
     ensures { λ r. ⌜ Came (readLine lengthAt (now (text .entry)) at (length (now (out .entry)))) r (λ xs. now (out .exit) ≡ xs) ⌝ }
 {
-    read_line(text, at, out)
+    let k = out.len();
+    let cause = read_length_fields(text, at, out);
+    if cause != Cause::NONE {
+        return cause;
+    }
+    judge_line_end(text, at + Text::FIELD_BYTES * k)
 }
 
 // A line of vertices, then their judgement.

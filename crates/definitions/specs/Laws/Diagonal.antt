@@ -1,6 +1,5 @@
 -- A text is refused by 6 exactly where its first cause is a length on the diagonal that is not 0: both halves of `refused-by-6-exactly` in the file Text.
---   length-bound row-short         no length field is too long
---   wrong-diagonal diagonal-judged so a row is refused for its diagonal only
+--   wrong-diagonal diagonal-judged a row whose lengths a table may hold is refused for its diagonal only
 --   rows-stop rows-stopped         rows up to the one that is refused, and back
 --   piece-stop piece-stopped       a piece
 --   pieces-stop pieces-stopped     pieces
@@ -14,37 +13,30 @@ use native.Mathlib.Omega.{arith}
 use borrow.Author.Tests.{leb-true, le-leb, eq-eqb, ne-eqb}
 use lib.Dec.{leb}
 use lib.ListN.{getD, length, drop}
-use Rattle.definitions.specs.Limits.{maxVertices, maxPieces, maxSize, maxLength, maxText}
+use Rattle.definitions.specs.Limits.{maxVertices, maxPieces, maxSize, maxText}
 use Rattle.definitions.specs.Lists.{every, different, within, total}
+use Rattle.definitions.specs.Metres.{isLength}
 use Rattle.definitions.specs.Network.{Piece, sizeOf}
 use Rattle.definitions.specs.Blocks.{blocksOf, passes}
 use Rattle.definitions.specs.Judgement.{judgeBounds, judgeSize, judgeVertices, judgeRow, judgeBlocks}
 use Rattle.definitions.specs.Fields.{fieldBytes, fieldAt, lengthAt}
 use Rattle.definitions.specs.Reading.{Read, refused, value, _>>=_, require, readField, readLine, lineBytes, readRows, readPiece, pieceBytes, readPieces, Question, readQuestion, Plan, readBody, readPlan, judgeLength, readText}
-use Rattle.definitions.specs.Written.{writtenLine, writtenPiece, StoppedPiece, DiagonalFirst}
-use Rattle.definitions.specs.Laws.Members.{every-test, every-imp}
+use Rattle.definitions.specs.Written.{writtenField, writtenLength, writtenLine, writtenPiece, StoppedPiece, DiagonalFirst}
+use Rattle.definitions.specs.Laws.Members.{every-test}
 use Rattle.definitions.specs.Laws.Causes.{test-holds, bounds-in, size-in, vertices-in, rows-short, Short}
 use Rattle.definitions.specs.Laws.ReadLaws.{value-same, bind-value, require-value, line-length}
-use Rattle.definitions.specs.Laws.FieldBound.{maxField, field-bound}
-use Rattle.definitions.specs.Laws.LineProofs.{length-reads, stands-both, line-written, rows-read, sized-written, pieces-read, two-numbers}
-use Rattle.definitions.specs.Laws.LineBack.{lengths-small, vertices-small, line-small, line-back, rows-back, sized-back, pieces-back}
+use Rattle.definitions.specs.Laws.FieldBound.{maxField}
+use Rattle.definitions.specs.Laws.FieldKinds.{plain-fields, length-fields}
+use Rattle.definitions.specs.Laws.LineProofs.{stands-both, line-written, rows-read, sized-written, pieces-read, two-numbers}
+use Rattle.definitions.specs.Laws.LineBack.{vertices-small, line-back, rows-back, sized-back, pieces-back}
 use Rattle.definitions.specs.Laws.NeverRefused.{Never, past, upto, either, value-never, then-never, require-is, cause-never, field-never, line-never, question-never}
 
--- ---- lengths
+-- ---- the diagonal
 
--- the largest length fills its field
-pub length-bound : (text : List ℕ) (at : ℕ) → (lengthAt text at) .value ≤ maxLength
-unfolding lengthAt
-length-bound text at = omega (arith, field-bound text at)
-
-row-short : (text : List ℕ) (at m : ℕ) (row : List ℕ) → readLine lengthAt text at m ≡ value row → Short row
-row-short text at m row e = every-imp (λ l. l ≤ maxField) (λ l. l ≤ maxLength) row (λ l k. omega arith) (line-small lengthAt length-reads text at m row e)
-
--- a row whose lengths are in bounds is refused for its diagonal only
 wrong-diagonal : (i : ℕ) (row : List ℕ) → Short row → judgeRow i row ≡ 6 → getD row i 0 ≢ 0
 unfolding judgeRow
 wrong-diagonal i row s j h =
-    let short : every (λ l. leb l maxLength) row ≡ true = every-test (λ l. leb l maxLength) (λ l. l ≤ maxLength) (λ l. le-leb l maxLength) row s in
+    let short : every isLength row ≡ true = every-test isLength (λ l. isLength l ≡ true) (λ l t. t) row s in
     let z : _≡_ {A = ℕ} 0 6 = simp (short, eq-eqb (getD row i 0) 0 h) at j in
     omega arith
 
@@ -81,7 +73,7 @@ rows-stop : (text : List ℕ) (at m i k : ℕ) → readRows text at m i k ≡ re
 unfolding readRows
 rows-stop text at m i zero e = absurd (value-never 6 [] e)
 rows-stop text at m i (suc k) e =
-    let a = past 6 (readLine lengthAt text at m) _ (line-never lengthAt length-reads 6 (omega arith) text at m) e in
+    let a = past 6 (readLine lengthAt text at m) _ (line-never length-fields 6 (omega arith) text at m) e in
     go (a .0) (a .1) (either 6 (require (judgeRow i (a .0))) _ (a .2)) (λ h. rows-stop text (at + lineBytes m) m (suc i) k h)
   where
     more : List ℕ → Read (List (List ℕ))
@@ -122,7 +114,7 @@ record PieceStop (text : List ℕ) (n at : ℕ) : Type 0 where
   piece : Piece
   row : List ℕ
   behind : List ℕ
-  stands : drop at text ≡ writtenPiece piece ++ (writtenLine row ++ behind)
+  stands : drop at text ≡ writtenPiece piece ++ (writtenLine writtenLength row ++ behind)
   stopped : StoppedPiece n piece row
 
 module _ (text : List ℕ) (n at m : ℕ) (vertices : List ℕ) (size : readField fieldAt text at ≡ value m) (line : readLine fieldAt text (at + fieldBytes) m ≡ value vertices) where
@@ -132,34 +124,33 @@ module _ (text : List ℕ) (n at m : ℕ) (vertices : List ℕ) (size : readFiel
       let long : length vertices ≡ m = line-length fieldAt text (at + fieldBytes) m vertices line in
       let rows = rows-read text (at + lineBytes (suc m)) m 0 (length (r .rows)) (r .rows) (r .read) in
       let x : 0 + length (r .rows) ≡ length (r .rows) = omega arith in
-      let short = row-short text (at + lineBytes (suc m) + length (r .rows) * lineBytes m) m (r .row) (r .line) in
       let first = sized-written text at m vertices size line in
-      let front = stands-both text at (lineBytes (suc m)) (length (r .rows) * lineBytes m) (writtenLine (m ∷ vertices)) (flatMap writtenLine (r .rows)) first (rows .stands) in
+      let front = stands-both text at (lineBytes (suc m)) (length (r .rows) * lineBytes m) (writtenLine writtenField (m ∷ vertices)) (flatMap (writtenLine writtenLength) (r .rows)) first (rows .stands) in
       let y : at + lineBytes (suc m) + length (r .rows) * lineBytes m ≡ at + (lineBytes (suc m) + length (r .rows) * lineBytes m) = omega arith in
-      let last = line-written lengthAt length-reads text (at + (lineBytes (suc m) + length (r .rows) * lineBytes m)) m (r .row) (rw y at (r .line)) in
+      let last = line-written length-fields text (at + (lineBytes (suc m) + length (r .rows) * lineBytes m)) m (r .row) (rw y at (r .line)) in
       record {
         piece = record { vertices = vertices; rows = r .rows };
         row = r .row;
         behind = drop (at + (lineBytes (suc m) + length (r .rows) * lineBytes m) + lineBytes m) text;
-        stands = rw long (front ∙ rw last);
+        stands = rw long (front ∙ rw (last .0));
         stopped = record {
           size = rw long size-ok;
           vertices-in = vertices-ok;
           judged = rows .judged;
           wide = rw long (line-length lengthAt text (at + lineBytes (suc m) + length (r .rows) * lineBytes m) m (r .row) (r .line), rows .wide);
           rows-left = omega (arith, r .few);
-          short = short;
-          diagonal = wrong-diagonal (length (r .rows)) (r .row) short (rw x at (r .judged));
+          short = last .1;
+          diagonal = wrong-diagonal (length (r .rows)) (r .row) (last .1) (rw x at (r .judged));
         };
       }
 
 piece-stop : (text : List ℕ) (n at : ℕ) → readPiece text n at ≡ refused 6 → PieceStop text n at
 unfolding readPiece judgeSize judgeVertices judgeBlocks
 piece-stop text n at e =
-    let a = past 6 (readField fieldAt text at) _ (field-never fieldAt (λ t i. refl) 6 (omega arith) text at) e in
+    let a = past 6 (readField fieldAt text at) _ (field-never plain-fields 6 (omega arith) text at) e in
     let m = a .0 in
     let b = past 6 (require (judgeSize m)) _ (cause-never 6 (within maxSize m) 4 (λ z. omega arith)) (a .2) in
-    let c = past 6 (readLine fieldAt text (at + fieldBytes) m) _ (line-never fieldAt (λ t i. refl) 6 (omega arith) text (at + fieldBytes) m) (b .2) in
+    let c = past 6 (readLine fieldAt text (at + fieldBytes) m) _ (line-never plain-fields 6 (omega arith) text (at + fieldBytes) m) (b .2) in
     let vertices = c .0 in
     let d = past 6 (require (judgeVertices n vertices)) _ (cause-never 6 (every (within n) vertices && different vertices) 5 (λ z. omega arith)) (c .2) in
     let f = upto 6 (readRows text (at + lineBytes (suc m)) m 0 m) _ (λ rows. blocks-never (record { vertices = vertices; rows = rows })) (d .2) in
@@ -171,16 +162,16 @@ piece-stop text n at e =
     blocks-never : (q : Piece) → Never 6 (_>>=_ (require (judgeBlocks q)) (λ _. value q))
     blocks-never q = then-never 6 (require (judgeBlocks q)) (λ _. value q) (cause-never 6 (every passes (blocksOf 0 q)) 7 (λ z. omega arith)) (λ _. value-never 6 q)
 
-piece-stopped : (text : List ℕ) (n at : ℕ) (q : Piece) (row behind : List ℕ) → n ≤ maxField → StoppedPiece n q row → drop at text ≡ writtenPiece q ++ (writtenLine row ++ behind)
+piece-stopped : (text : List ℕ) (n at : ℕ) (q : Piece) (row behind : List ℕ) → n ≤ maxField → StoppedPiece n q row → drop at text ≡ writtenPiece q ++ (writtenLine writtenLength row ++ behind)
     → readPiece text n at ≡ refused 6
 unfolding readPiece writtenPiece sizeOf
 piece-stopped text n at q row behind few s h =
     let m = length (q .vertices) in
     let size = size-in m (s .size) in
-    let here : drop at text ≡ writtenLine (m ∷ q .vertices) ++ (flatMap writtenLine (q .rows) ++ (writtenLine row ++ behind)) = h ∙ append-assoc (writtenLine (m ∷ q .vertices)) (flatMap writtenLine (q .rows)) (writtenLine row ++ behind) in
-    let line = sized-back text at m (q .vertices) (flatMap writtenLine (q .rows) ++ (writtenLine row ++ behind)) (omega (arith, size .1)) (vertices-small n (q .vertices) few (s .vertices-in)) refl here in
-    let rows = rows-back text (at + lineBytes (suc m)) m 0 (q .rows) (writtenLine row ++ behind) (s .wide .1) (rows-short 0 (q .rows) (s .judged)) (s .judged) (line .2) in
-    let next = line-back lengthAt length-reads text (at + lineBytes (suc m) + length (q .rows) * lineBytes m) row behind m (s .wide .0) (lengths-small row (s .short)) (rows .1) in
+    let here : drop at text ≡ writtenLine writtenField (m ∷ q .vertices) ++ (flatMap (writtenLine writtenLength) (q .rows) ++ (writtenLine writtenLength row ++ behind)) = h ∙ append-assoc (writtenLine writtenField (m ∷ q .vertices)) (flatMap (writtenLine writtenLength) (q .rows)) (writtenLine writtenLength row ++ behind) in
+    let line = sized-back text at m (q .vertices) (flatMap (writtenLine writtenLength) (q .rows) ++ (writtenLine writtenLength row ++ behind)) (omega (arith, size .1)) (vertices-small n (q .vertices) few (s .vertices-in)) refl here in
+    let rows = rows-back text (at + lineBytes (suc m)) m 0 (q .rows) (writtenLine writtenLength row ++ behind) (s .wide .1) (rows-short 0 (q .rows) (s .judged)) (s .judged) (line .2) in
+    let next = line-back length-fields text (at + lineBytes (suc m) + length (q .rows) * lineBytes m) row behind m (s .wide .0) (s .short) (rows .1) in
     let x : 0 + length (q .rows) ≡ length (q .rows) = omega arith in
     let stop = rows-stopped (q .rows) text (at + lineBytes (suc m)) m 0 m row (s .rows-left) (rows .0) (next .0) (rw x (diagonal-judged (length (q .rows)) row (s .diagonal))) in
     rw (line .0, s .size, line .1, s .vertices-in, stop)
@@ -245,13 +236,13 @@ body-stop text n p e =
     rest-never : (qs : List Piece) (at : ℕ) → Never 6 (_>>=_ (readQuestion text n at) (λ question. value (said qs question)))
     rest-never qs at = then-never 6 (readQuestion text n at) _ (question-never 6 (omega arith) (λ z. omega arith) (λ z. omega arith) text n at) (λ question. value-never 6 (said qs question))
 
-lines-joined : (text first two front middle back stop : List ℕ) → first ≡ two → text ≡ writtenLine first ++ front → front ≡ middle ++ back → back ≡ stop → text ≡ writtenLine two ++ (middle ++ stop)
+lines-joined : (text first two front middle back stop : List ℕ) → first ≡ two → text ≡ writtenLine writtenField first ++ front → front ≡ middle ++ back → back ≡ stop → text ≡ writtenLine writtenField two ++ (middle ++ stop)
 lines-joined text first two front middle back stop f t m b = t ∙ rw (f, m, b)
 
 plan-stop : (text : List ℕ) → readPlan text ≡ refused 6 → DiagonalFirst text
 unfolding readPlan
 plan-stop text e =
-    let a = past 6 (readLine fieldAt text 0 2) _ (line-never fieldAt (λ t i. refl) 6 (omega arith) text 0 2) e in
+    let a = past 6 (readLine fieldAt text 0 2) _ (line-never plain-fields 6 (omega arith) text 0 2) e in
     let first = a .0 in
     let n = getD first 0 0 in
     let p = getD first 1 0 in
@@ -269,8 +260,8 @@ plan-stop text e =
       row = stop .row;
       behind = stop .behind;
       lines =
-          lines-joined text first (n ∷ p ∷ []) (drop (lineBytes 2) text) (flatMap writtenPiece (pieces .before)) (drop at text) (writtenPiece (stop .piece) ++ (writtenLine (stop .row) ++ stop .behind))
-          two (line-written fieldAt (λ t i. refl) text 0 2 first (a .1)) (read .stands) (stop .stands);
+          lines-joined text first (n ∷ p ∷ []) (drop (lineBytes 2) text) (flatMap writtenPiece (pieces .before)) (drop at text) (writtenPiece (stop .piece) ++ (writtenLine writtenLength (stop .row) ++ stop .behind))
+          two (line-written plain-fields text 0 2 first (a .1) .0) (read .stands) (stop .stands);
       bounds = body .0;
       each = read .each;
       pieces-left = pieces .few;
@@ -283,8 +274,8 @@ plan-stopped text d =
     let n = d .n in
     let p = d .p in
     let few = bounds-in n p (d .bounds) in
-    let stop = writtenPiece (d .piece) ++ (writtenLine (d .row) ++ d .behind) in
-    let line = line-back fieldAt (λ _ _. refl) text 0 (n ∷ p ∷ []) (flatMap writtenPiece (d .before) ++ stop) 2 refl (omega (arith, few .0), (omega (arith, few .1), tt)) (d .lines) in
+    let stop = writtenPiece (d .piece) ++ (writtenLine writtenLength (d .row) ++ d .behind) in
+    let line = line-back plain-fields text 0 (n ∷ p ∷ []) (flatMap writtenPiece (d .before) ++ stop) 2 refl (omega (arith, few .0), (omega (arith, few .1), tt)) (d .lines) in
     let pieces = pieces-back text n (lineBytes 2) (d .before) stop (omega (arith, few .0)) (d .each) (line .1) in
     let piece = piece-stopped text n (lineBytes 2 + total (map pieceBytes (d .before))) (d .piece) (d .row) (d .behind) (omega (arith, few .0)) (d .stopped) (pieces .1) in
     rw (line .0, d .bounds, pieces-stopped (d .before) text n (lineBytes 2) p (d .pieces-left) (pieces .0) piece)

@@ -1,7 +1,7 @@
 -- The bound on the value of a field, stated once: all that is known of its size.
 --   maxField                 what six columns hold
 --   digit-bound digit-room   one digit more
---   field-bound              the value of a field, wherever it stands
+--   six-bound field-bound    the value of six bytes, and of a field wherever it stands
 use mathlib.Core.Path.{_≡_}
 use mathlib.Core.Bool.{true, not, _||_}
 use mathlib.Core.List.{List, [], _∷_}
@@ -13,7 +13,7 @@ use lib.Dec.{eqb, leb}
 use lib.ListN.{length, take, drop, length-take}
 use Rattle.logic.specs.Tests.{Truth, holds, fails, truth, and-left, and-right}
 use Rattle.definitions.specs.Lists.{every}
-use Rattle.definitions.specs.Fields.{fieldBytes, isDigit, skipBlanks, isNumeral, numeralValue, fieldOf, fieldAt}
+use Rattle.definitions.specs.Fields.{fieldBytes, isDigit, skipBlanks, isNumeral, numeralValue, fieldOf, sixAt, fieldAt}
 use Rattle.definitions.specs.Laws.FieldProofs.{digit-in, length-skipBlanks}
 
 -- what has room in six columns: six nines
@@ -46,7 +46,7 @@ numeral-bound (d ∷ ds) h t =
     let digits = and-left (every isDigit (d ∷ ds)) (not (eqb d 48) || eqb (length ds) 0) t in
     omega (arith, value-bound (d ∷ ds) 0 0 (omega arith) digits, power-bound (0 + length (d ∷ ds)) (omega arith))
 
-six-bound : (six : List ℕ) → length six ≤ fieldBytes → (fieldOf six) .value ≤ maxField
+pub six-bound : (six : List ℕ) → length six ≤ fieldBytes → (fieldOf six) .value ≤ maxField
 unfolding fieldOf
 six-bound six h = go (truth (isNumeral (skipBlanks six)))
   where
@@ -55,7 +55,7 @@ six-bound six h = go (truth (isNumeral (skipBlanks six)))
     go (fails t) = simp t (omega arith)
 
 pub field-bound : (text : List ℕ) (at : ℕ) → (fieldAt text at) .value ≤ maxField
-unfolding fieldAt
+unfolding sixAt
 field-bound text at = go (truth (leb (at + fieldBytes) (length text)))
   where
     go : Truth (leb (at + fieldBytes) (length text)) → (fieldAt text at) .value ≤ maxField

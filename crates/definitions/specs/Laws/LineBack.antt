@@ -1,6 +1,5 @@
 -- From a plan that no cause turns away to its text, which is read back: part of `accepted-exactly` in the file Text.
---   Small lengths-small vertices-small   numbers that have room in their fields
---   line-small                      those of a line that was read have
+--   Small vertices-small            numbers that have room in their fields
 --   behind byte-here                the text behind bytes that stand at a place, and the first of them
 --   fields-back line-back           fields and a line that stand at a place are read there
 --   rows-back piece-back pieces-back   so are rows and pieces
@@ -9,53 +8,29 @@
 use mathlib.Core.Path.{_≡_, refl, sym, ap, _∙_}
 use mathlib.Core.List.{List, [], _∷_, _++_, map, flatMap, append-assoc, append-nil}
 use mathlib.Core.Option.{Option, none, some}
-use Prim.Native.Nat.{ℕ, zero, suc, _+_, _-_, _*_, _≤_, _<_}
+use Prim.Native.Nat.{ℕ, suc, _+_, _-_, _*_, _≤_, _<_}
 use native.Mathlib.Omega.{arith}
 use borrow.Author.Tests.{le-leb, eq-eqb, ne-eqb}
 use lib.ListN.{getD, length, drop, length-append, length-drop}
 use lib.Seq.{take-at, drop-at, drop-drop, getD-drop}
-use Rattle.definitions.specs.Limits.{maxLength}
 use Rattle.definitions.specs.Lists.{Every, total}
 use Rattle.definitions.specs.Network.{Piece, sizeOf}
 use Rattle.definitions.specs.Judgement.{judgeSize, judgeVertices, judgeRow, judgeRows, judgeBlocks, judgePiece, judgeSource}
-use Rattle.definitions.specs.Fields.{lineEnd, fieldBytes, FieldAnswer, aField, fieldAt, lengthAt}
-use Rattle.definitions.specs.Reading.{FieldReading, value, require, readField, readFields, judgeLineEnd, readLine, lineBytes, readRows, readPiece, pieceBytes, readPieces, judgeEnd, targetIn, questionOf, questionSize, judgeAsked, readQuestion, Plan, readBody, readPlan}
+use Rattle.definitions.specs.Fields.{lineEnd, fieldBytes, FieldAnswer, aField, sixAt, fieldAt}
+use Rattle.definitions.specs.Reading.{value, readField, readFields, judgeLineEnd, readLine, lineBytes, readRows, readPiece, pieceBytes, readPieces, judgeEnd, targetIn, questionOf, questionSize, judgeAsked, readQuestion, Plan, readBody, readPlan}
 use Rattle.definitions.specs.Laws.Members.{every-imp}
 use Rattle.definitions.specs.Laws.Causes.{no-cause, size-in, bounds-in, source-in, target-in, vertices-in, Short, rows-short}
-use Rattle.definitions.specs.Written.{writtenField, writtenLine, writtenPiece, questionFields, written, SoundPiece, SoundPlan}
-use Rattle.definitions.specs.Laws.ReadLaws.{value-same, bind-value, field-value}
-use Rattle.definitions.specs.Laws.LineProofs.{Reads, length-reads}
-use Rattle.definitions.specs.Laws.FieldBound.{maxField, field-bound}
-use Rattle.definitions.specs.Laws.FieldBack.{length-written, field-back, field-begins}
+use Rattle.definitions.specs.Written.{FieldWriting, writtenField, writtenLength, writtenLine, writtenPiece, questionFields, written, SoundPiece, SoundPlan}
+use Rattle.definitions.specs.Laws.FieldKinds.{Mirrors, plain-fields, length-fields}
+use Rattle.definitions.specs.Laws.FieldBound.{maxField}
+use Rattle.definitions.specs.Laws.FieldBack.{length-written, field-begins}
 
 -- numbers that have room in their fields
 abbrev Small : List ℕ → Type 0
 Small xs = Every (λ x. x ≤ maxField) xs
 
-pub lengths-small : (row : List ℕ) → Short row → Small row
-lengths-small row s = every-imp (λ l. l ≤ maxLength) (λ l. l ≤ maxField) row (λ l k. omega arith) s
-
 pub vertices-small : (n : ℕ) (vertices : List ℕ) → n ≤ maxField → judgeVertices n vertices ≡ 0 → Small vertices
 vertices-small n vertices few j = every-imp (λ v. (1 ≤ v) × (v ≤ n)) (λ v. v ≤ maxField) vertices (λ v k. omega arith) (vertices-in n vertices j)
-
--- those that were read
-module _ (field : FieldReading) (same : Reads field) where
-  fields-small : (text : List ℕ) (at k : ℕ) (xs : List ℕ) → readFields field text at k ≡ value xs → Small xs
-  unfolding readFields
-  fields-small text at zero xs e = rw (← value-same [] xs e) tt
-  fields-small text at (suc k) xs e =
-      let a = bind-value (readField field text at) _ xs e in
-      let b = bind-value (readFields field text (at + fieldBytes) k) _ xs (a .2) in
-      let x = a .0 in
-      let is : (fieldAt text at) .value ≡ x = ap (λ (f : FieldAnswer). f .value) (sym (same text at) ∙ field-value field text at x (a .1)) in
-      rw (← value-same (x ∷ b .0) xs (b .2)) (omega (arith, field-bound text at), fields-small text (at + fieldBytes) k (b .0) (b .1))
-
-  pub line-small : (text : List ℕ) (at k : ℕ) (xs : List ℕ) → readLine field text at k ≡ value xs → Small xs
-  unfolding readLine
-  line-small text at k xs e =
-      let a = bind-value (readFields field text at k) _ xs e in
-      let b = bind-value (require (judgeLineEnd text (at + fieldBytes * k))) _ xs (a .2) in
-      rw (← value-same (a .0) xs (b .2)) (fields-small text at k (a .0) (a .1))
 
 -- the text behind bytes that stand at a place
 behind : (text : List ℕ) (at k : ℕ) (bytes rest : List ℕ) → length bytes ≡ k → drop at text ≡ bytes ++ rest → drop (at + k) text ≡ rest
@@ -67,55 +42,55 @@ byte-here text at bytes h =
     let z : at + 0 ≡ at = omega arith in
     rw z at (sym (getD-drop at text 0 0)) ∙ ap (λ (b : List ℕ). getD b 0 0) h
 
--- ---- fields
+-- ---- fields of one kind
 
-field-here : (text : List ℕ) (at x : ℕ) (rest : List ℕ) → x ≤ maxField → drop at text ≡ writtenField x ++ rest → fieldAt text at ≡ aField x
-unfolding fieldAt
-field-here text at x rest s h =
-    let six = length-written x s in
-    let long : length text - at ≡ fieldBytes + length rest = sym (length-drop at text) ∙ ap length h ∙ length-append (writtenField x) rest ∙ rw six in
-    rw (le-leb (at + fieldBytes) (length text) (omega arith), h, take-at (writtenField x) rest fieldBytes six) (field-back x s)
+module _ {says : List ℕ → FieldAnswer} {writes : FieldWriting} {Fits : ℕ → Type 0} (kind : Mirrors says writes Fits) where
+  field-here : (text : List ℕ) (at x : ℕ) (rest : List ℕ) → Fits x → drop at text ≡ writes x ++ rest → sixAt says text at ≡ aField x
+  unfolding sixAt
+  field-here text at x rest s h =
+      let six = kind .long x s in
+      let long : length text - at ≡ fieldBytes + length rest = sym (length-drop at text) ∙ ap length h ∙ length-append (writes x) rest ∙ rw six in
+      rw (le-leb (at + fieldBytes) (length text) (omega arith), h, take-at (writes x) rest fieldBytes six) (kind .back x s)
 
-module _ (field : FieldReading) (same : Reads field) where
-  read-back : (text : List ℕ) (at x : ℕ) (rest : List ℕ) → x ≤ maxField → drop at text ≡ writtenField x ++ rest → readField field text at ≡ value x
+  read-back : (text : List ℕ) (at x : ℕ) (rest : List ℕ) → Fits x → drop at text ≡ writes x ++ rest → readField (sixAt says) text at ≡ value x
   unfolding readField
-  read-back text at x rest s h = rw (same text at ∙ field-here text at x rest s h)
+  read-back text at x rest s h = rw (field-here text at x rest s h)
 
-  fields-back : (text : List ℕ) (at : ℕ) (xs rest : List ℕ) → Small xs → drop at text ≡ flatMap writtenField xs ++ rest
-      → (readFields field text at (length xs) ≡ value xs) × (drop (at + fieldBytes * length xs) text ≡ rest)
+  fields-back : (text : List ℕ) (at : ℕ) (xs rest : List ℕ) → Every Fits xs → drop at text ≡ flatMap writes xs ++ rest
+      → (readFields (sixAt says) text at (length xs) ≡ value xs) × (drop (at + fieldBytes * length xs) text ≡ rest)
   unfolding readFields flatMap
   fields-back text at [] rest s h = let z : at + fieldBytes * 0 ≡ at = omega arith in (refl, rw z h)
   fields-back text at (x ∷ xs) rest s h =
-      let here : drop at text ≡ writtenField x ++ (flatMap writtenField xs ++ rest) = h ∙ append-assoc (writtenField x) (flatMap writtenField xs) rest in
-      let next = behind text at fieldBytes (writtenField x) (flatMap writtenField xs ++ rest) (length-written x (s .0)) here in
+      let here : drop at text ≡ writes x ++ (flatMap writes xs ++ rest) = h ∙ append-assoc (writes x) (flatMap writes xs) rest in
+      let next = behind text at fieldBytes (writes x) (flatMap writes xs ++ rest) (kind .long x (s .0)) here in
       let more = fields-back text (at + fieldBytes) xs rest (s .1) next in
       let z : at + fieldBytes * suc (length xs) ≡ at + fieldBytes + fieldBytes * length xs = omega arith in
-      (rw (read-back text at x (flatMap writtenField xs ++ rest) (s .0) here, more .0), rw z (more .1))
+      (rw (read-back text at x (flatMap writes xs ++ rest) (s .0) here, more .0), rw z (more .1))
 
-  pub line-back : (text : List ℕ) (at : ℕ) (xs rest : List ℕ) (k : ℕ) → length xs ≡ k → Small xs → drop at text ≡ writtenLine xs ++ rest
-      → (readLine field text at k ≡ value xs) × (drop (at + lineBytes k) text ≡ rest)
+  pub line-back : (text : List ℕ) (at : ℕ) (xs rest : List ℕ) (k : ℕ) → length xs ≡ k → Every Fits xs → drop at text ≡ writtenLine writes xs ++ rest
+      → (readLine (sixAt says) text at k ≡ value xs) × (drop (at + lineBytes k) text ≡ rest)
   unfolding readLine writtenLine judgeLineEnd
   line-back text at xs rest k l s h =
-      let here : drop at text ≡ flatMap writtenField xs ++ (lineEnd ∷ rest) = h ∙ append-assoc (flatMap writtenField xs) (lineEnd ∷ []) rest in
+      let here : drop at text ≡ flatMap writes xs ++ (lineEnd ∷ rest) = h ∙ append-assoc (flatMap writes xs) (lineEnd ∷ []) rest in
       let f = fields-back text at xs (lineEnd ∷ rest) s here in
       let end = at + fieldBytes * k in
       let last : drop end text ≡ lineEnd ∷ rest = rw l at (f .1) in
       let byte : getD text end 0 ≡ lineEnd = byte-here text end (lineEnd ∷ rest) last in
       let y : at + lineBytes k ≡ end + 1 = omega arith in
-      let first : readFields field text at k ≡ value xs = rw l at (f .0) in
+      let first : readFields (sixAt says) text at k ≡ value xs = rw l at (f .0) in
       (rw (first, eq-eqb _ _ byte), rw y (behind text end 1 (lineEnd ∷ []) rest refl last))
 
 -- ---- rows
 
 pub rows-back : (text : List ℕ) (at m i : ℕ) (rows : List (List ℕ)) (rest : List ℕ) → Every (λ row. length row ≡ m) rows → Every Short rows → judgeRows i rows ≡ 0
-    → drop at text ≡ flatMap writtenLine rows ++ rest
+    → drop at text ≡ flatMap (writtenLine writtenLength) rows ++ rest
     → (readRows text at m i (length rows) ≡ value rows) × (drop (at + length rows * lineBytes m) text ≡ rest)
 unfolding readRows flatMap judgeRows
 rows-back text at m i [] rest w s j h = let z : at + 0 * lineBytes m ≡ at = omega arith in (refl, rw z h)
 rows-back text at m i (row ∷ rows) rest w s j h =
     let causes = no-cause (judgeRow i row ∷ judgeRows (suc i) rows ∷ []) j in
-    let here : drop at text ≡ writtenLine row ++ (flatMap writtenLine rows ++ rest) = h ∙ append-assoc (writtenLine row) (flatMap writtenLine rows) rest in
-    let line = line-back lengthAt length-reads text at row (flatMap writtenLine rows ++ rest) m (w .0) (lengths-small row (s .0)) here in
+    let here : drop at text ≡ writtenLine writtenLength row ++ (flatMap (writtenLine writtenLength) rows ++ rest) = h ∙ append-assoc (writtenLine writtenLength row) (flatMap (writtenLine writtenLength) rows) rest in
+    let line = line-back length-fields text at row (flatMap (writtenLine writtenLength) rows ++ rest) m (w .0) (s .0) here in
     let more = rows-back text (at + lineBytes m) m (suc i) rows rest (w .1) (s .1) (causes .1 .0) (line .1) in
     let z : at + suc (length rows) * lineBytes m ≡ at + lineBytes m + length rows * lineBytes m = omega arith in
     (rw (line .0, causes .0, more .0), rw z (more .1))
@@ -123,15 +98,15 @@ rows-back text at m i (row ∷ rows) rest w s j h =
 -- ---- a piece
 
 -- the size and the line of the vertices
-pub sized-back : (text : List ℕ) (at m : ℕ) (vertices rest : List ℕ) → m ≤ maxField → Small vertices → length vertices ≡ m → drop at text ≡ writtenLine (m ∷ vertices) ++ rest
+pub sized-back : (text : List ℕ) (at m : ℕ) (vertices rest : List ℕ) → m ≤ maxField → Small vertices → length vertices ≡ m → drop at text ≡ writtenLine writtenField (m ∷ vertices) ++ rest
     → (readField fieldAt text at ≡ value m) × (readLine fieldAt text (at + fieldBytes) m ≡ value vertices) × (drop (at + lineBytes (suc m)) text ≡ rest)
 unfolding writtenLine flatMap
 sized-back text at m vertices rest s t l h =
-    let here : drop at text ≡ writtenField m ++ (writtenLine vertices ++ rest) = h ∙ simp append-assoc in
-    let next = behind text at fieldBytes (writtenField m) (writtenLine vertices ++ rest) (length-written m s) here in
-    let line = line-back fieldAt (λ _ _. refl) text (at + fieldBytes) vertices rest m l t next in
+    let here : drop at text ≡ writtenField m ++ (writtenLine writtenField vertices ++ rest) = h ∙ simp append-assoc in
+    let next = behind text at fieldBytes (writtenField m) (writtenLine writtenField vertices ++ rest) (length-written m s) here in
+    let line = line-back plain-fields text (at + fieldBytes) vertices rest m l t next in
     let z : at + lineBytes (suc m) ≡ at + fieldBytes + lineBytes m = omega arith in
-    (read-back fieldAt (λ _ _. refl) text at m (writtenLine vertices ++ rest) s here, line .0, rw z (line .1))
+    (read-back plain-fields text at m (writtenLine writtenField vertices ++ rest) s here, line .0, rw z (line .1))
 
 piece-back : (text : List ℕ) (n at : ℕ) (q : Piece) (rest : List ℕ) → n ≤ maxField → SoundPiece n q → drop at text ≡ writtenPiece q ++ rest
     → (readPiece text n at ≡ value q) × (drop (at + pieceBytes q) text ≡ rest)
@@ -140,8 +115,8 @@ piece-back text n at q rest few s h =
     let m = length (q .vertices) in
     let causes = no-cause (judgeSize m ∷ judgeVertices n (q .vertices) ∷ judgeRows 0 (q .rows) ∷ judgeBlocks q ∷ []) (s .judgement) in
     let size = size-in m (causes .0) in
-    let here : drop at text ≡ writtenLine (m ∷ q .vertices) ++ (flatMap writtenLine (q .rows) ++ rest) = h ∙ append-assoc (writtenLine (m ∷ q .vertices)) (flatMap writtenLine (q .rows)) rest in
-    let line = sized-back text at m (q .vertices) (flatMap writtenLine (q .rows) ++ rest) (omega (arith, size .1)) (vertices-small n (q .vertices) few (causes .1 .0)) refl here in
+    let here : drop at text ≡ writtenLine writtenField (m ∷ q .vertices) ++ (flatMap (writtenLine writtenLength) (q .rows) ++ rest) = h ∙ append-assoc (writtenLine writtenField (m ∷ q .vertices)) (flatMap (writtenLine writtenLength) (q .rows)) rest in
+    let line = sized-back text at m (q .vertices) (flatMap (writtenLine writtenLength) (q .rows) ++ rest) (omega (arith, size .1)) (vertices-small n (q .vertices) few (causes .1 .0)) refl here in
     let table = rows-back text (at + lineBytes (suc m)) m 0 (q .rows) rest (s .wide) (rows-short 0 (q .rows) (causes .1 .1 .0)) (causes .1 .1 .0) (line .2) in
     let rows : readRows text (at + lineBytes (suc m)) m 0 m ≡ value (q .rows) = rw (s .tall) at (table .0) in
     let end : drop (at + lineBytes (suc m) + m * lineBytes m) text ≡ rest = rw (s .tall) at (table .1) in
@@ -162,7 +137,7 @@ pieces-back text n at (q ∷ qs) rest few s h =
 -- ---- the question line
 
 -- behind the source stands a line's end, or a field, which begins with another byte
-size-back : (text : List ℕ) (at source : ℕ) (target : Option ℕ) → Small (questionFields source target) → drop at text ≡ writtenLine (questionFields source target)
+size-back : (text : List ℕ) (at source : ℕ) (target : Option ℕ) → Small (questionFields source target) → drop at text ≡ writtenLine writtenField (questionFields source target)
     → questionSize text at ≡ length (questionFields source target)
 unfolding questionFields questionSize judgeLineEnd writtenLine flatMap
 size-back text at source none s h =
@@ -197,30 +172,30 @@ unfolding flatMap
 fields-long [] s = refl
 fields-long (x ∷ xs) s = length-append (writtenField x) (flatMap writtenField xs) ∙ rw (length-written x (s .0), fields-long xs (s .1)) (omega arith)
 
-line-long : (xs : List ℕ) → Small xs → length (writtenLine xs) ≡ lineBytes (length xs)
+line-long : (xs : List ℕ) → Small xs → length (writtenLine writtenField xs) ≡ lineBytes (length xs)
 unfolding writtenLine
 line-long xs s = length-append (flatMap writtenField xs) (lineEnd ∷ []) ∙ rw (fields-long xs s)
 
 pub question-back : (text : List ℕ) (n at source : ℕ) (target : Option ℕ) → n ≤ maxField → judgeSource n source ≡ 0 → judgeAsked n target ≡ 0
-    → drop at text ≡ writtenLine (questionFields source target) → readQuestion text n at ≡ value (record { source = source; target = target })
+    → drop at text ≡ writtenLine writtenField (questionFields source target) → readQuestion text n at ≡ value (record { source = source; target = target })
 unfolding readQuestion
 question-back text n at source target few s t h =
     let fields = questionFields source target in
     let small = asked-small n source target few s t in
     let size : questionSize text at ≡ length fields = size-back text at source target small h in
-    let line = line-back fieldAt (λ _ _. refl) text at fields [] (length fields) refl small (h ∙ sym (append-nil (writtenLine fields))) in
+    let line = line-back plain-fields text at fields [] (length fields) refl small (h ∙ sym (append-nil (writtenLine writtenField fields))) in
     let end = end-back text at (lineBytes (length fields)) (omega arith) (ap length h ∙ line-long fields small) in
     rw (size, line .0, asked-fields source target, s, t, end)
 
 -- ---- the whole text
 
 body-back : (text : List ℕ) (plan : Plan) → SoundPlan plan
-    → drop (lineBytes 2) text ≡ flatMap writtenPiece (plan .pieces) ++ writtenLine (questionFields (plan .source) (plan .target))
+    → drop (lineBytes 2) text ≡ flatMap writtenPiece (plan .pieces) ++ writtenLine writtenField (questionFields (plan .source) (plan .target))
     → readBody text (plan .n) (length (plan .pieces)) ≡ value plan
 unfolding readBody
 body-back text plan s h =
     let few = bounds-in (plan .n) (length (plan .pieces)) (s .bounds) .0 in
-    let last = writtenLine (questionFields (plan .source) (plan .target)) in
+    let last = writtenLine writtenField (questionFields (plan .source) (plan .target)) in
     let pieces = pieces-back text (plan .n) (lineBytes 2) (plan .pieces) last (omega arith) (s .each) h in
     let at = lineBytes 2 + total (map pieceBytes (plan .pieces)) in
     let question = question-back text (plan .n) at (plan .source) (plan .target) (omega arith) (s .source-in) (s .target-in) (pieces .1) in
@@ -232,6 +207,6 @@ text-back plan s =
     let n = plan .n in
     let p = length (plan .pieces) in
     let few = bounds-in n p (s .bounds) in
-    let rest = flatMap writtenPiece (plan .pieces) ++ writtenLine (questionFields (plan .source) (plan .target)) in
-    let line = line-back fieldAt (λ _ _. refl) (writtenLine (n ∷ p ∷ []) ++ rest) 0 (n ∷ p ∷ []) rest 2 refl (omega (arith, few .0), (omega (arith, few .1), tt)) refl in
-    rw (line .0) (body-back (writtenLine (n ∷ p ∷ []) ++ rest) plan s (line .1))
+    let rest = flatMap writtenPiece (plan .pieces) ++ writtenLine writtenField (questionFields (plan .source) (plan .target)) in
+    let line = line-back plain-fields (writtenLine writtenField (n ∷ p ∷ []) ++ rest) 0 (n ∷ p ∷ []) rest 2 refl (omega (arith, few .0), (omega (arith, few .1), tt)) refl in
+    rw (line .0) (body-back (writtenLine writtenField (n ∷ p ∷ []) ++ rest) plan s (line .1))

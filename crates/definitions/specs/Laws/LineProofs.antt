@@ -18,11 +18,11 @@ use Rattle.logic.specs.Tests.{Truth, holds, fails, truth, split-at}
 use Rattle.definitions.specs.Lists.{Every, total, firstCause}
 use Rattle.definitions.specs.Network.{Piece, sizeOf}
 use Rattle.definitions.specs.Judgement.{judgeBounds, judgeSize, judgeVertices, judgeRow, judgeRows, judgeBlocks, judgePiece, judgeSource}
-use Rattle.definitions.specs.Fields.{lineEnd, fieldBytes, FieldAnswer, aField, noField, fieldAt, lengthAt, decimal, rightJustified}
-use Rattle.definitions.specs.Reading.{FieldReading, value, require, readField, readFields, judgeLineEnd, readLine, lineBytes, readRows, readPiece, pieceBytes, readPieces, judgeEnd, Question, targetIn, questionOf, questionSize, judgeAsked, readQuestion, Plan, readBody, readPlan}
-use Rattle.definitions.specs.Written.{writtenField, writtenLine, writtenPiece, questionFields, written, SoundPiece, SoundPlan}
+use Rattle.definitions.specs.Fields.{lineEnd, fieldBytes, FieldAnswer, aField, noField, sixAt, fieldAt, lengthAt}
+use Rattle.definitions.specs.Reading.{value, require, readField, readFields, judgeLineEnd, readLine, lineBytes, readRows, readPiece, pieceBytes, readPieces, judgeEnd, Question, targetIn, questionOf, questionSize, judgeAsked, readQuestion, Plan, readBody, readPlan}
+use Rattle.definitions.specs.Written.{FieldWriting, writtenField, writtenLength, writtenLine, writtenPiece, questionFields, written, SoundPiece, SoundPlan}
 use Rattle.definitions.specs.Laws.ReadLaws.{value-same, bind-value, require-value, field-value, line-length}
-use Rattle.definitions.specs.Laws.FieldProofs.{field-written}
+use Rattle.definitions.specs.Laws.FieldKinds.{Mirrors, plain-fields, length-fields}
 
 -- ---- what was read from a place on
 
@@ -39,47 +39,41 @@ stands-both text at a b xs ys h k =
     let z : at + a + b ≡ at + (a + b) = omega arith in
     h ∙ rw (k, z) (sym (append-assoc xs ys (drop (at + (a + b)) text)))
 
-field-at : (text : List ℕ) (at x : ℕ) → fieldAt text at ≡ aField x → Stands text at fieldBytes (writtenField x)
-unfolding fieldAt writtenField
-field-at text at x e = go (truth (leb (at + fieldBytes) (length text)))
-  where
-    six : List ℕ
-    six = take fieldBytes (drop at text)
+-- fields of one kind
+module _ {says : List ℕ → FieldAnswer} {writes : FieldWriting} {Fits : ℕ → Type 0} (kind : Mirrors says writes Fits) where
+  field-at : (text : List ℕ) (at x : ℕ) → sixAt says text at ≡ aField x → Stands text at fieldBytes (writes x) × Fits x
+  unfolding sixAt
+  field-at text at x e = go (truth (leb (at + fieldBytes) (length text)))
+    where
+      six : List ℕ
+      six = take fieldBytes (drop at text)
 
-    go : Truth (leb (at + fieldBytes) (length text)) → drop at text ≡ rightJustified fieldBytes (decimal x) ++ drop (at + fieldBytes) text
-    go (holds t) =
-        let inside = leb-true (at + fieldBytes) (length text) t in
-        let long : length six ≡ fieldBytes = length-take-le fieldBytes (drop at text) (simp length-drop (omega arith)) in
-        let is : six ≡ rightJustified fieldBytes (decimal x) = rw long at (field-written six x (omega arith) (simp t at e)) in
-        rw (← is, ← drop-drop fieldBytes at text) (sym (take-append-drop fieldBytes (drop at text)))
-    go (fails t) =
-        let a : noField ≡ aField x = simp t at e in
-        let z : _≡_ {A = ℕ} 3 0 = ap (λ (f : FieldAnswer). f .number) a in
-        absurd (omega arith)
+      go : Truth (leb (at + fieldBytes) (length text)) → Stands text at fieldBytes (writes x) × Fits x
+      go (holds t) =
+          let inside = leb-true (at + fieldBytes) (length text) t in
+          let long : length six ≡ fieldBytes = length-take-le fieldBytes (drop at text) (simp length-drop (omega arith)) in
+          let is = kind .written six x long (simp t at e) in
+          (rw (← is .0, ← drop-drop fieldBytes at text) (sym (take-append-drop fieldBytes (drop at text))), is .1)
+      go (fails t) =
+          let a : noField ≡ aField x = simp t at e in
+          let z : _≡_ {A = ℕ} 3 0 = ap (λ (f : FieldAnswer). f .number) a in
+          absurd (omega arith)
 
--- both readings of a field
-abbrev pub Reads : FieldReading → Type 0
-Reads field = (text : List ℕ) (at : ℕ) → field text at ≡ fieldAt text at
+  read-field-written : (text : List ℕ) (at x : ℕ) → readField (sixAt says) text at ≡ value x → Stands text at fieldBytes (writes x) × Fits x
+  read-field-written text at x e = field-at text at x (field-value (sixAt says) text at x e)
 
-pub length-reads : Reads lengthAt
-unfolding lengthAt
-length-reads text at = refl
-
-read-field-written : (field : FieldReading) → Reads field → (text : List ℕ) (at x : ℕ) → readField field text at ≡ value x → Stands text at fieldBytes (writtenField x)
-read-field-written field same text at x e = field-at text at x (sym (same text at) ∙ field-value field text at x e)
-
-fields-written : (field : FieldReading) → Reads field → (text : List ℕ) (at k : ℕ) (xs : List ℕ) → readFields field text at k ≡ value xs → Stands text at (fieldBytes * k) (flatMap writtenField xs)
-unfolding readFields flatMap
-fields-written field same text at zero xs e = rw (← value-same [] xs e) (stands-none text at)
-fields-written field same text at (suc k) xs e =
-    let a = bind-value (readField field text at) _ xs e in
-    let b = bind-value (readFields field text (at + fieldBytes) k) _ xs (a .2) in
-    let x = a .0 in
-    let rest = b .0 in
-    let one = read-field-written field same text at x (a .1) in
-    let more = fields-written field same text (at + fieldBytes) k rest (b .1) in
-    let z : fieldBytes + fieldBytes * k ≡ fieldBytes * suc k = omega arith in
-    rw (← value-same (x ∷ rest) xs (b .2), ← z) (stands-both text at fieldBytes (fieldBytes * k) (writtenField x) (flatMap writtenField rest) one more)
+  fields-written : (text : List ℕ) (at k : ℕ) (xs : List ℕ) → readFields (sixAt says) text at k ≡ value xs → Stands text at (fieldBytes * k) (flatMap writes xs) × Every Fits xs
+  unfolding readFields flatMap
+  fields-written text at zero xs e = rw (← value-same [] xs e) (stands-none text at, tt)
+  fields-written text at (suc k) xs e =
+      let a = bind-value (readField (sixAt says) text at) _ xs e in
+      let b = bind-value (readFields (sixAt says) text (at + fieldBytes) k) _ xs (a .2) in
+      let x = a .0 in
+      let rest = b .0 in
+      let one = read-field-written text at x (a .1) in
+      let more = fields-written text (at + fieldBytes) k rest (b .1) in
+      let z : fieldBytes + fieldBytes * k ≡ fieldBytes * suc k = omega arith in
+      rw (← value-same (x ∷ rest) xs (b .2), ← z) (stands-both text at fieldBytes (fieldBytes * k) (writes x) (flatMap writes rest) (one .0) (more .0), (one .1, more .1))
 
 end-written : (text : List ℕ) (at : ℕ) → judgeLineEnd text at ≡ 0 → Stands text at 1 (lineEnd ∷ [])
 unfolding judgeLineEnd
@@ -93,19 +87,22 @@ end-written text at e = go (truth (eqb (getD text at 0) lineEnd))
         drop-cons text at 0 inside ∙ rw (is, z)
     go (fails t) = let bad : _≡_ {A = ℕ} 3 0 = simp t at e in absurd (omega arith)
 
-pub line-written : (field : FieldReading) → Reads field → (text : List ℕ) (at k : ℕ) (xs : List ℕ) → readLine field text at k ≡ value xs → Stands text at (lineBytes k) (writtenLine xs)
-unfolding readLine writtenLine
-line-written field same text at k xs e =
-    let a = bind-value (readFields field text at k) _ xs e in
-    let b = bind-value (require (judgeLineEnd text (at + fieldBytes * k))) _ xs (a .2) in
-    let end = require-value (judgeLineEnd text (at + fieldBytes * k)) (b .0) (b .1) in
-    rw (← value-same (a .0) xs (b .2)) (stands-both text at (fieldBytes * k) 1 (flatMap writtenField (a .0)) (lineEnd ∷ []) (fields-written field same text at k (a .0) (a .1)) (end-written text (at + fieldBytes * k) end))
+-- a line of them
+module _ {says : List ℕ → FieldAnswer} {writes : FieldWriting} {Fits : ℕ → Type 0} (kind : Mirrors says writes Fits) where
+  pub line-written : (text : List ℕ) (at k : ℕ) (xs : List ℕ) → readLine (sixAt says) text at k ≡ value xs → Stands text at (lineBytes k) (writtenLine writes xs) × Every Fits xs
+  unfolding readLine writtenLine
+  line-written text at k xs e =
+      let a = bind-value (readFields (sixAt says) text at k) _ xs e in
+      let b = bind-value (require (judgeLineEnd text (at + fieldBytes * k))) _ xs (a .2) in
+      let end = require-value (judgeLineEnd text (at + fieldBytes * k)) (b .0) (b .1) in
+      let fields = fields-written kind text at k (a .0) (a .1) in
+      rw (← value-same (a .0) xs (b .2)) (stands-both text at (fieldBytes * k) 1 (flatMap writes (a .0)) (lineEnd ∷ []) (fields .0) (end-written text (at + fieldBytes * k) end), fields .1)
 
 -- ---- rows
 
 -- k rows of m lengths, the first of them row i: they stand there, and each was judged
 pub record RowsRead (text : List ℕ) (at m i k : ℕ) (rows : List (List ℕ)) : Type 0 where
-  pub stands : Stands text at (k * lineBytes m) (flatMap writtenLine rows)
+  pub stands : Stands text at (k * lineBytes m) (flatMap (writtenLine writtenLength) rows)
   pub count : length rows ≡ k
   pub wide : Every (λ row. length row ≡ m) rows
   pub judged : judgeRows i rows ≡ 0
@@ -114,13 +111,13 @@ no-rows : (text : List ℕ) (at m i : ℕ) → RowsRead text at m i 0 []
 unfolding judgeRows flatMap
 no-rows text at m i = record { stands = let z : 0 * lineBytes m ≡ 0 = omega arith in rw z (stands-none text at); count = refl; wide = tt; judged = refl }
 
-row-more : (text : List ℕ) (at m i k : ℕ) (row : List ℕ) (rows : List (List ℕ)) → Stands text at (lineBytes m) (writtenLine row) → length row ≡ m → judgeRow i row ≡ 0
+row-more : (text : List ℕ) (at m i k : ℕ) (row : List ℕ) (rows : List (List ℕ)) → Stands text at (lineBytes m) (writtenLine writtenLength row) → length row ≡ m → judgeRow i row ≡ 0
     → RowsRead text (at + lineBytes m) m (suc i) k rows → RowsRead text at m i (suc k) (row ∷ rows)
 unfolding judgeRows firstCause flatMap
 row-more text at m i k row rows line long ok r = record {
   stands =
       let z : lineBytes m + k * lineBytes m ≡ suc k * lineBytes m = omega arith in
-      rw (← z) (stands-both text at (lineBytes m) (k * lineBytes m) (writtenLine row) (flatMap writtenLine rows) line (r .stands));
+      rw (← z) (stands-both text at (lineBytes m) (k * lineBytes m) (writtenLine writtenLength row) (flatMap (writtenLine writtenLength) rows) line (r .stands));
   count = ap suc (r .count);
   wide = (long, r .wide);
   judged = rw (ok, r .judged);
@@ -136,7 +133,7 @@ rows-read text at m i (suc k) rows e =
     let c = bind-value (readRows text (at + lineBytes m) m (suc i) k) _ rows (b .2) in
     subst (RowsRead text at m i (suc k)) (value-same (row ∷ c .0) rows (c .2))
     (row-more text at m i k row (c .0)
-    (line-written lengthAt length-reads text at m row (a .1))
+    (line-written length-fields text at m row (a .1) .0)
     (line-length lengthAt text at m row (a .1))
     (require-value (judgeRow i row) (b .0) (b .1))
     (rows-read text (at + lineBytes m) m (suc i) k (c .0) (c .1)))
@@ -148,28 +145,28 @@ record PieceRead (text : List ℕ) (n at : ℕ) (q : Piece) : Type 0 where
   sound : SoundPiece n q
 
 -- the size is the first field of the line of the vertices
-sized-line : (m : ℕ) (xs : List ℕ) → writtenField m ++ writtenLine xs ≡ writtenLine (m ∷ xs)
+sized-line : (m : ℕ) (xs : List ℕ) → writtenField m ++ writtenLine writtenField xs ≡ writtenLine writtenField (m ∷ xs)
 unfolding writtenLine flatMap
 sized-line m xs = sym (append-assoc (writtenField m) (flatMap writtenField xs) (lineEnd ∷ []))
 
 pub sized-written : (text : List ℕ) (at m : ℕ) (vertices : List ℕ) → readField fieldAt text at ≡ value m → readLine fieldAt text (at + fieldBytes) m ≡ value vertices
-    → Stands text at (lineBytes (suc m)) (writtenLine (m ∷ vertices))
+    → Stands text at (lineBytes (suc m)) (writtenLine writtenField (m ∷ vertices))
 sized-written text at m vertices size line =
     let z : fieldBytes + lineBytes m ≡ lineBytes (suc m) = omega arith in
-    let first = read-field-written fieldAt (λ t i. refl) text at m size in
-    let rest = line-written fieldAt (λ t i. refl) text (at + fieldBytes) m vertices line in
-    rw (z, sized-line m vertices) at (stands-both text at fieldBytes (lineBytes m) (writtenField m) (writtenLine vertices) first rest)
+    let first = read-field-written plain-fields text at m size in
+    let rest = line-written plain-fields text (at + fieldBytes) m vertices line in
+    rw (z, sized-line m vertices) at (stands-both text at fieldBytes (lineBytes m) (writtenField m) (writtenLine writtenField vertices) (first .0) (rest .0))
 
 module _ (text : List ℕ) (n at m : ℕ) (vertices : List ℕ) (rows : List (List ℕ)) where
   abbrev made : Piece
   made = record { vertices = vertices; rows = rows }
 
-  piece-made : length vertices ≡ m → Stands text at (lineBytes (suc m)) (writtenLine (m ∷ vertices))
+  piece-made : length vertices ≡ m → Stands text at (lineBytes (suc m)) (writtenLine writtenField (m ∷ vertices))
       → judgeSize m ≡ 0 → judgeVertices n vertices ≡ 0 → RowsRead text (at + lineBytes (suc m)) m 0 m rows → judgeBlocks made ≡ 0 → PieceRead text n at made
   unfolding judgePiece firstCause sizeOf pieceBytes writtenPiece
   piece-made long first size-in vertices-in r blocks =
       record {
-        stands = rw long (stands-both text at (lineBytes (suc m)) (m * lineBytes m) (writtenLine (m ∷ vertices)) (flatMap writtenLine rows) first (r .stands));
+        stands = rw long (stands-both text at (lineBytes (suc m)) (m * lineBytes m) (writtenLine writtenField (m ∷ vertices)) (flatMap (writtenLine writtenLength) rows) first (r .stands));
         sound = record { tall = r .count ∙ sym long; wide = rw long (r .wide); judgement = rw (long, size-in, vertices-in, r .judged, blocks) };
       }
 
@@ -252,7 +249,7 @@ fields-asked (x ∷ y ∷ z ∷ zs) l u = absurd (omega arith)
 
 -- it is the last line, and its source and its target have been judged
 pub record QuestionRead (text : List ℕ) (n at : ℕ) (q : Question) : Type 0 where
-  pub line : drop at text ≡ writtenLine (questionFields (q .source) (q .target))
+  pub line : drop at text ≡ writtenLine writtenField (questionFields (q .source) (q .target))
   pub source-in : judgeSource n (q .source) ≡ 0
   pub target-in : judgeAsked n (q .target) ≡ 0
 
@@ -269,10 +266,10 @@ question-read text n at q e =
     let long : length fields ≡ k = line-length fieldAt text at k fields (a .1) in
     let size = question-size text at in
     let same : questionFields (asked .source) (asked .target) ≡ fields = fields-asked fields (omega (arith, size .0)) (omega (arith, size .1)) in
-    let line : drop at text ≡ writtenLine fields ++ drop (at + lineBytes k) text = line-written fieldAt (λ t i. refl) text at k fields (a .1) in
+    let line : drop at text ≡ writtenLine writtenField fields ++ drop (at + lineBytes k) text = line-written plain-fields text at k fields (a .1) .0 in
     let end : drop (at + lineBytes k) text ≡ [] = at-end text (at + lineBytes k) (require-value (judgeEnd text (at + lineBytes k)) (d .0) (d .1)) in
     subst (QuestionRead text n at) (value-same asked q (d .2)) (record {
-      line = line ∙ rw end (append-nil (writtenLine fields) ∙ ap writtenLine (sym same));
+      line = line ∙ rw end (append-nil (writtenLine writtenField fields) ∙ ap (writtenLine writtenField) (sym same));
       source-in = require-value (judgeSource n (asked .source)) (b .0) (b .1);
       target-in = require-value (judgeAsked n (asked .target)) (c .0) (c .1);
     })
@@ -289,7 +286,7 @@ two-numbers (x ∷ y ∷ z ∷ zs) h = absurd (omega arith)
 record BodyRead (text : List ℕ) (n p : ℕ) (plan : Plan) : Type 0 where
   n-is : plan .n ≡ n
   p-is : length (plan .pieces) ≡ p
-  rest : drop (lineBytes 2) text ≡ flatMap writtenPiece (plan .pieces) ++ writtenLine (questionFields (plan .source) (plan .target))
+  rest : drop (lineBytes 2) text ≡ flatMap writtenPiece (plan .pieces) ++ writtenLine writtenField (questionFields (plan .source) (plan .target))
   sound : SoundPlan plan
 
 body-read : (text : List ℕ) (n p : ℕ) (plan : Plan) → readBody text n p ≡ value plan → BodyRead text n p plan
@@ -316,7 +313,7 @@ body-read text n p plan e =
       };
     })
 
-whole : (text first : List ℕ) (n p : ℕ) (plan : Plan) → first ≡ n ∷ p ∷ [] → Stands text 0 (lineBytes 2) (writtenLine first) → BodyRead text n p plan → text ≡ written plan
+whole : (text first : List ℕ) (n p : ℕ) (plan : Plan) → first ≡ n ∷ p ∷ [] → Stands text 0 (lineBytes 2) (writtenLine writtenField first) → BodyRead text n p plan → text ≡ written plan
 unfolding written
 whole text first n p plan two line body = line ∙ rw (two, body .rest, body .n-is, body .p-is)
 
@@ -329,4 +326,4 @@ text-read text plan e =
     let p = getD first 1 0 in
     let body = body-read text n p plan (a .2) in
     let two : first ≡ n ∷ p ∷ [] = two-numbers first (line-length fieldAt text 0 2 first (a .1)) in
-    (body .sound, whole text first n p plan two (line-written fieldAt (λ t i. refl) text 0 2 first (a .1)) body)
+    (body .sound, whole text first n p plan two (line-written plain-fields text 0 2 first (a .1) .0) body)

@@ -4,11 +4,11 @@
 --   require-is cause-never               a cause is refused by its own number and no other
 --   field-never line-never               a field and a line are refused by no number above 3
 --   question-never                       a question line is refused by 3, 8 and 12 alone
-use mathlib.Core.Path.{_≡_, refl, sym, ap, _∙_}
+use mathlib.Core.Path.{_≡_, refl, sym}
 use mathlib.Core.Bool.{Bool, true, false, cond}
 use mathlib.Core.List.{List, [], _∷_}
 use mathlib.Core.Option.{Option, none, some}
-use mathlib.Core.Logic.{_≢_, _⊎_, inl, inr}
+use mathlib.Core.Logic.{_≢_, _⊎_, inl, inr, ⊎-elim}
 use Prim.Native.Nat.{ℕ, zero, suc, _+_, _*_, _<_}
 use native.Mathlib.Omega.{arith}
 use lib.Dec.{eqb, leb}
@@ -16,9 +16,10 @@ use lib.ListN.{getD, length, take, drop}
 use Rattle.logic.specs.Tests.{Truth, holds, fails, truth}
 use Rattle.definitions.specs.Lists.{within}
 use Rattle.definitions.specs.Judgement.{judgeSource, judgeTarget}
-use Rattle.definitions.specs.Fields.{lineEnd, fieldBytes, FieldAnswer, skipBlanks, isNumeral, fieldOf, fieldAt}
-use Rattle.definitions.specs.Reading.{FieldReading, Read, refused, value, _>>=_, require, readField, readFields, judgeLineEnd, readLine, lineBytes, judgeEnd, questionOf, questionSize, judgeAsked, readQuestion}
-use Rattle.definitions.specs.Laws.LineProofs.{Reads}
+use Rattle.definitions.specs.Fields.{lineEnd, fieldBytes, FieldAnswer, sixAt, fieldAt}
+use Rattle.definitions.specs.Reading.{Read, refused, value, _>>=_, require, readField, readFields, judgeLineEnd, readLine, lineBytes, judgeEnd, questionOf, questionSize, judgeAsked, readQuestion}
+use Rattle.definitions.specs.Written.{FieldWriting}
+use Rattle.definitions.specs.Laws.FieldKinds.{Mirrors, plain-fields}
 
 -- not refused by the number k
 abbrev pub Never : {A : Type 0} → ℕ → Read A → Type 0
@@ -62,41 +63,34 @@ cause-never k false j h e = h (require-is k j e)
 
 -- ---- fields and lines
 
-bytes-never : (k : ℕ) (bytes : List ℕ) → 3 < k → (fieldOf bytes) .number ≢ k
-unfolding fieldOf
-bytes-never k bytes h e = go (truth (isNumeral (skipBlanks bytes)))
-  where
-    go : Truth (isNumeral (skipBlanks bytes)) → ⊥
-    go (holds t) = let z : 0 ≡ k = simp t at e in omega arith
-    go (fails t) = let z : 3 ≡ k = simp t at e in omega arith
+module _ {says : List ℕ → FieldAnswer} {writes : FieldWriting} {Fits : ℕ → Type 0} (kind : Mirrors says writes Fits) (k : ℕ) (h : 3 < k) where
+  bytes-never : (bytes : List ℕ) → (says bytes) .number ≢ k
+  bytes-never bytes e = ⊎-elim (λ (z : (says bytes) .number ≡ 0). omega arith) (λ (z : (says bytes) .number ≡ 3). omega arith) (kind .cause bytes)
 
-number-never : (k : ℕ) (text : List ℕ) (at : ℕ) → 3 < k → (fieldAt text at) .number ≢ k
-unfolding fieldAt
-number-never k text at h e = go (truth (leb (at + fieldBytes) (length text)))
-  where
-    go : Truth (leb (at + fieldBytes) (length text)) → ⊥
-    go (holds t) = bytes-never k (take fieldBytes (drop at text)) h (simp t at e)
-    go (fails t) = let z : 3 ≡ k = simp t at e in omega arith
+  number-never : (text : List ℕ) (at : ℕ) → (sixAt says text at) .number ≢ k
+  unfolding sixAt
+  number-never text at e = go (truth (leb (at + fieldBytes) (length text)))
+    where
+      go : Truth (leb (at + fieldBytes) (length text)) → ⊥
+      go (holds t) = bytes-never (take fieldBytes (drop at text)) (simp t at e)
+      go (fails t) = let z : 3 ≡ k = simp t at e in omega arith
 
-module _ (field : FieldReading) (same : Reads field) (k : ℕ) (h : 3 < k) where
-  pub field-never : (text : List ℕ) (at : ℕ) → Never k (readField field text at)
+  pub field-never : (text : List ℕ) (at : ℕ) → Never k (readField (sixAt says) text at)
   unfolding readField
   field-never text at =
-      then-never k (require ((field text at) .number)) _
-      (λ e. number-never k text at h (ap (λ (f : FieldAnswer). f .number) (sym (same text at)) ∙ require-is k ((field text at) .number) e))
-      (λ _. value-never k ((field text at) .value))
+      then-never k (require ((sixAt says text at) .number)) _ (λ e. number-never text at (require-is k ((sixAt says text at) .number) e)) (λ _. value-never k ((sixAt says text at) .value))
 
-  fields-never : (text : List ℕ) (at m : ℕ) → Never k (readFields field text at m)
+  fields-never : (text : List ℕ) (at m : ℕ) → Never k (readFields (sixAt says) text at m)
   unfolding readFields
   fields-never text at zero = value-never k []
   fields-never text at (suc m) =
-      then-never k (readField field text at) _ (field-never text at)
-      (λ x. then-never k (readFields field text (at + fieldBytes) m) _ (fields-never text (at + fieldBytes) m) (λ xs. value-never k (x ∷ xs)))
+      then-never k (readField (sixAt says) text at) _ (field-never text at)
+      (λ x. then-never k (readFields (sixAt says) text (at + fieldBytes) m) _ (fields-never text (at + fieldBytes) m) (λ xs. value-never k (x ∷ xs)))
 
-  pub line-never : (text : List ℕ) (at m : ℕ) → Never k (readLine field text at m)
+  pub line-never : (text : List ℕ) (at m : ℕ) → Never k (readLine (sixAt says) text at m)
   unfolding readLine judgeLineEnd
   line-never text at m =
-      then-never k (readFields field text at m) _ (fields-never text at m)
+      then-never k (readFields (sixAt says) text at m) _ (fields-never text at m)
       (λ xs. then-never k (require (judgeLineEnd text (at + fieldBytes * m))) _ (cause-never k (eqb (getD text (at + fieldBytes * m) 0) lineEnd) 3 (λ z. omega arith)) (λ _. value-never k xs))
 
 -- ---- the question line
@@ -110,7 +104,7 @@ pub question-never : (k : ℕ) → 3 < k → k ≢ 8 → k ≢ 12 → (text : Li
 unfolding readQuestion judgeSource judgeEnd
 question-never k h eight twelve text n at =
     let size = questionSize text at in
-    then-never k (readLine fieldAt text at size) _ (line-never fieldAt (λ t i. refl) k h text at size)
+    then-never k (readLine fieldAt text at size) _ (line-never plain-fields k h text at size)
     (λ fields. then-never k (require (judgeSource n (questionOf fields .source))) _ (cause-never k (within n (questionOf fields .source)) 8 (λ z. eight (sym z)))
     (λ _. then-never k (require (judgeAsked n (questionOf fields .target))) _ (asked-never k n (questionOf fields .target) twelve)
     (λ _. then-never k (require (judgeEnd text (at + lineBytes size))) _ (cause-never k (eqb (length text) (at + lineBytes size)) 3 (λ z. omega arith)) (λ _. value-never k (questionOf fields)))))

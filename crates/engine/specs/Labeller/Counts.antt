@@ -7,9 +7,9 @@ use Prim.Native.Nat.{ℕ, _+_, _*_}
 use Rattle.definitions.specs.Limits.{maxPieces, maxSize}
 use Rattle.preparation.specs.Prepared.{maxBlocks}
 
--- laws `step-new` and `step-new-extract` of the heap
+-- laws `step-new` and `step-new-extract` of the heap: three, and one more for each closed column, of which a block has at most so many
 abbrev pub activationInserts : ℕ
-activationInserts = 3
+activationInserts = 3 + maxSize
 
 abbrev pub extractionInserts : ℕ
 extractionInserts = 2

@@ -22,7 +22,9 @@ use Rattle.definitions.specs.Labelling.{BlockState, extraction, freshBlock, act
 use Rattle.definitions.specs.Entries.{labelAnswer}
 use Rattle.definitions.specs.declared.LabelAnswer.{LabelAnswer}
 use Rattle.basics.specs.ListLaws.{every-at, every-all}
-use Rattle.labelling_laws.specs.OneBlock.{Fit}
+use Rattle.heap_laws.specs.Activate.{closed-few}
+use Rattle.labelling_laws.specs.OneBlock as block
+use Rattle.labelling_laws.specs.OneBlock.{Fit, insertedMost}
 use Rattle.labelling_laws.specs.BlockSteps.{blockAt, Setting}
 use Rattle.labelling_laws.specs.LoopLaws.{start-is, advance-old, advance-new, least-in, labels-length, labels-none, labels-set, read-unsettled, read-settled}
 use Rattle.labelling_laws.specs.Ends.{start-extracts, step-extracts, goes, finished, reached-few, labels-short, extractions-bound, insertions-bound, welcome-start, welcome-step}
@@ -30,7 +32,7 @@ use Rattle.engine.specs.declared.labelling.Progress.{Progress}
 use Rattle.engine.specs.declared.labelling.Progress.the-variants as progress
 use Rattle.engine.specs.declared.labelling.Step.the-variants as step
 use Rattle.engine.specs.Labeller.State.{Tables, Arrays, arrays, changed, Parted, Running, callAt}
-use Rattle.engine.specs.Labeller.Counts.{activationInserts, extractionInserts, blockInserts, maxInserted, maxExtracted}
+use Rattle.engine.specs.Labeller.Counts.{activationInserts, blockInserts, maxInserted, maxExtracted}
 use Rattle.engine.specs.Labeller.BlockCalls.{count-is, block-same}
 use Rattle.engine.specs.Labeller.LentHeaps.{window-long}
 use Rattle.engine.specs.Labeller.Insertions.{insertedIn, inserted-set, inserted-fresh, total-most}
@@ -73,10 +75,6 @@ IsLabelling f bs source r labels-now arcs =
 
 -- ---- how many
 
--- what the calls on a block insert at most
-abbrev inserts : Block → ℕ
-inserts b = activationInserts * length (b .rows) + extractionInserts * length (b .cols)
-
 -- a block has at most so many rows and columns, and there are at most so many blocks
 module _ {t : Tables} {bs : List Block} (parted : Parted t bs) where
   sides : (b : ℕ) → b < length bs → (length (getD bs b noBlock .rows) ≤ maxSize) × (length (getD bs b noBlock .cols) ≤ maxSize)
@@ -88,8 +86,13 @@ module _ {t : Tables} {bs : List Block} (parted : Parted t bs) where
   unfolding columns
   columns-most = omega (arith, total-most (λ (b : Block). length (b .cols)) maxSize bs (every-all _ bs noBlock (λ b l. sides b l .1)), parted .few)
 
-  inserted-most : total (map inserts bs) ≤ maxInserted
-  inserted-most = omega (arith, total-most inserts blockInserts bs (every-all _ bs noBlock (λ b l. omega (arith, sides b l))), parted .few)
+  inserted-most : total (map insertedMost bs) ≤ maxInserted
+  inserted-most = omega (arith, total-most insertedMost blockInserts bs (every-all _ bs noBlock one), parted .few)
+    where
+      one : (b : ℕ) → b < length bs → insertedMost (getD bs b noBlock) ≤ blockInserts
+      one b l =
+          let k = getD bs b noBlock in
+          omega (arith, sides b l, block.inserted-most maxSize k (λ _. omega (arith, closed-few (k .lengths) (length (k .rows)) (length (k .cols)), sides b l .1)))
 
 -- ---- after k steps
 

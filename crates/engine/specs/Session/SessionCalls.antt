@@ -30,7 +30,7 @@ use Rattle.heap_laws.specs.Counting.{countNew-same}
 use Rattle.heap_laws.specs.Extract.{extracts-least}
 use Rattle.heap_laws.specs.TraceCounts.{call-balance, step-allowed}
 use Rattle.definitions.specs.declared.Called.{Called}
-use Rattle.heap.specs.Holds.{all-pairs, sound-of, relabelled}
+use Rattle.heap.specs.Holds.{sound-of, relabelled}
 use Rattle.heap.specs.HeapCalls.{Becomes, ActivateGiven, MinExtracted}
 
 abbrev pub refusal : ℕ → ℕ → Called
@@ -47,7 +47,7 @@ stepped rows cols heap₀ labels₀ floor m s k heap labels r next answer insert
   answer-is = answer;
   inserted-is = inserted;
   removed-is = removed;
-  few = rw answer (omega (arith, inserted, step-allowed (lentEntry rows 0) (length rows) cols (all-pairs (s .held .checked)) m k (sound-of (s .held))));
+  few = rw answer (omega (arith, inserted, step-allowed (lentEntry rows 0) (length rows) cols (s .held .checked .monge) m k (sound-of (s .held))));
   balanced = omega (arith, inserted, removed, call-balance (lentEntry rows 0) cols m (stepOf rows cols m k .model), ap length (next .held .listed));
   least = λ q. rw answer (extracts-least (lentEntry rows 0) (length rows) cols m k q);
 }

@@ -13,7 +13,7 @@ returns : tie.Need-returns
 returns c = let a = c .before .args in let e : a .end ≡ a .first + 1 = omega arith in rw e (best-first _ _)
 
 lesser-of-two-requires : tie.Need-lesser-of-two-requires
-lesser-of-two-requires c κs = let p = c .before .before .pre in (p .0, omega (arith, c .if2 .taken, p .2, p .3 .inside))
+lesser-of-two-requires c κs = let p = c .before .before .pre .0 in (p .0, omega (arith, c .if2 .taken, p .2, p .3 .inside))
 
 returns-2 : tie.Need-returns-2
 returns-2 c = let a = c .before .before .before .args in let e : a .first + 2 ≡ a .end = omega (arith, c .before .if2 .taken) in rw e at (c .lesser-of-two .ensures)
@@ -21,7 +21,7 @@ returns-2 c = let a = c .before .before .before .args in let e : a .first + 2 �
 returns-3 : tie.Need-returns-3
 unfolding lentEntry
 returns-3 c =
-    let p = c .before .before .before .before .before .pre in
+    let p = c .before .before .before .before .before .pre .0 in
     rw (c .least-column .ensures) (indexed-least _ _ _ _ (p .3 .indexed) _ _ _ (p .0) (p .3 .inside) (p .1) (p .2))
 
 pub best-in-spec : {M : Type 1} → statement M

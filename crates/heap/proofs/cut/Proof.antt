@@ -66,19 +66,19 @@ room : (c : tie.After-rest-len2) →
 room c = replace-room _ _ _ _ _ _ _ _ _ _ _ _ (can (read c)) (c .before .rest-len .ensures .0) (c .rest-len2 .ensures .0) (omega arith)
 
 parent-requires : tie.Need-parent-requires
-parent-requires c κs = let p = c .before .before .before .pre .0 in omega (arith, p .inside, p .room .words)
+parent-requires c κs = let p = c .before .before .before .pre .0 in omega (arith, p .inside, p .laid .words)
 
 first-requires : tie.Need-first-requires
-first-requires c κs = let p = c .before .before .before .before .before .pre .0 in omega (arith, p .inside, p .room .words)
+first-requires c κs = let p = c .before .before .before .before .before .pre .0 in omega (arith, p .inside, p .laid .words)
 
 last-requires : tie.Need-last-requires
-last-requires c κs = let p = c .before .before .before .before .before .before .before .pre .0 in omega (arith, p .inside, p .room .words)
+last-requires c κs = let p = c .before .before .before .before .before .before .before .pre .0 in omega (arith, p .inside, p .laid .words)
 
 add-number : tie.Need-add-number
 add-number c = omega (arith, c .before .rest-len .ensures .1, c .rest-len2 .ensures .1)
 
 add-make-room : tie.Need-add-make-room
-add-make-room c = let p = start (read (c .before)) .pre .0 in omega (arith, p .inside, p .room .small)
+add-make-room c = let p = start (read (c .before)) .pre .0 in omega (arith, p .inside, p .small)
 
 make-room-requires : tie.Need-make-room-requires
 make-room-requires c κs = room (c .before)
@@ -95,7 +95,7 @@ put-rest-requires c κs =
 
 add-put-rest : tie.Need-add-put-rest
 add-put-rest c =
-    let p = start (read (measured (cleared (c .before .before .before)))) .pre .0 in omega (arith, p .inside, p .room .small, measured (cleared (c .before .before .before)) .before .rest-len .ensures .1)
+    let p = start (read (measured (cleared (c .before .before .before)))) .pre .0 in omega (arith, p .inside, p .small, measured (cleared (c .before .before .before)) .before .rest-len .ensures .1)
 
 put-rest-requires-2 : tie.Need-put-rest-requires-2
 put-rest-requires-2 c κs =

@@ -6,7 +6,7 @@ use Rattle.heap.proofs.put_columns.Statement.{statement}
 use Rattle.heap.proofs.put_columns.Tie as tie
 
 best-in-requires : tie.Need-best-in-requires
-best-in-requires c κs = let p = c .before .before .pre in (p .0 .2 .row-in, p .0 .1, p .1 .0, p .1 .1)
+best-in-requires c κs = let p = c .before .before .pre in ((p .0 .2 .row-in, p .0 .1, p .1 .0, p .1 .1), p .0 .2 .paths)
 
 sum-at-requires : tie.Need-sum-at-requires
 sum-at-requires c κs =

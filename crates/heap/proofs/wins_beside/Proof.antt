@@ -1,12 +1,12 @@
 -- `wins_beside` tests one column on each side of the place.
-use mathlib.Core.Path.{_≡_, sym, _∙_}
+use mathlib.Core.Path.{_≡_, refl, sym, _∙_}
 use mathlib.Core.Bool.{true, false}
 use mathlib.Core.Logic.{⊎-elim}
 use Prim.Native.Nat.{_-_, _<_}
 use native.Mathlib.Omega.{arith}
 use borrow.Author.Needs.{needs}
 use Rattle.definitions.specs.HeapWords.{lastAt}
-use Rattle.heap.specs.Search.{test, wins-some, wins-none}
+use Rattle.heap.specs.Search.{test, wins-some, wins-next}
 use Rattle.heap.proofs.wins_beside.Statement.{statement}
 use Rattle.heap.proofs.wins_beside.Tie as tie
 
@@ -27,7 +27,9 @@ tested-requires c κs =
     (p .0, omega (arith, p .1, c .before .if1 .taken), (omega (arith, last, o), omega (arith, last)))
 
 returns : tie.Need-returns
-returns c = wins-some _ _ _ _ _ (c .before .before .before .before .before .before .pre .0) _ (c .before .before .before .before .before .before .pre .1)
+returns c =
+    wins-some _ _ _ _ _ (c .before .before .before .before .before .before .pre .0) _ (c .before .before .before .before .before .before .pre .1) (c .before .before .before .if1 .taken)
+    (rw (c .before .before .last .ensures .is) at (sym (c .before .tested .ensures) ∙ c .if2 .taken))
 
 count-requires : tie.Need-count-requires
 count-requires c κs = omega (arith, c .before .before .before .pre .0 .laid .words)
@@ -45,11 +47,13 @@ tested-requires-2 c κs =
 
 returns-2 : tie.Need-returns-2
 returns-2 c =
-    wins-none _ _ _ _ _ (c .before .before .before .before .before .before .before .pre .0) _ (c .before .before .before .before .before .before .before .pre .1) _ (lost (c .before .before .before .before)) (λ _. rw (c .before .first .ensures .is) at (c .tested2 .ensures))
+    wins-next _ _ _ _ _ (c .before .before .before .before .before .before .before .pre .0) _ (c .before .before .before .before .before .before .before .pre .1) _ (lost (c .before .before .before .before)) (λ _. rw (c .before .first .ensures .is) at (c .tested2 .ensures))
+    (λ l. absurd (omega (arith, l, c .before .before .if3 .taken, c .before .before .before .count .ensures .is)))
 
 returns-3 : tie.Need-returns-3
 returns-3 c =
-    wins-none _ _ _ _ _ (c .before .before .before .before .before .pre .0) _ (c .before .before .before .before .before .pre .1) _ (lost (c .before .before)) (λ l. absurd (omega (arith, c .before .count .ensures .is, c .if3 .left)))
+    wins-next _ _ _ _ _ (c .before .before .before .before .before .pre .0) _ (c .before .before .before .before .before .pre .1) _ (lost (c .before .before)) (λ l. absurd (omega (arith, c .before .count .ensures .is, c .if3 .left)))
+    (λ _. refl)
 
 pub wins-beside-spec : {M : Type 1} → statement M
 wins-beside-spec =

@@ -51,7 +51,7 @@ blocks-pass-requires : tie.Need-blocks-pass-requires
 blocks-pass-requires c κs =
     let s = c .before .before in
     let h = inside _ (s .before .before .before .before .args .lengths .now) (s .before .before .if1 .left) _ (s .before .judge-size .ensures) (s .if2 .left) in
-    (h .0, h .1, c .before .table .ensures)
+    (s .before .before .if1 .left, h .0, h .1, c .before .table .ensures)
 
 returns-3 : tie.Need-returns-3
 returns-3 c =

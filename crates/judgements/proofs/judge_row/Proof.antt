@@ -6,16 +6,16 @@ use mathlib.Core.List.{List}
 use Prim.Native.Nat.{ℕ}
 use borrow.Author.Needs.{needs}
 use borrow.Author.Tests.{eq-eqb, not-true, not-false}
-use lib.Dec.{eqb, leb}
+use lib.Dec.{eqb}
 use lib.ListN.{getD, List·getD-eq-default}
-use Rattle.definitions.specs.Limits.{maxLength}
 use Rattle.definitions.specs.Lists.{every}
+use Rattle.definitions.specs.Metres.{isLength}
 use Rattle.definitions.specs.Judgement.{judgeRow}
 use Rattle.judgements.proofs.judge_row.Statement.{statement}
 use Rattle.judgements.proofs.judge_row.Tie as tie
 
 module _ (i : ℕ) (row : List ℕ) where
-  long : every (λ l. leb l maxLength) row ≡ false → 6 ≡ judgeRow i row
+  long : every isLength row ≡ false → 6 ≡ judgeRow i row
   unfolding judgeRow
   long h = rw h
 
@@ -23,7 +23,7 @@ module _ (i : ℕ) (row : List ℕ) where
   unfolding judgeRow
   diagonal h = rw (h, and-false)
 
-  sound : every (λ l. leb l maxLength) row ≡ true → eqb (getD row i 0) 0 ≡ true → 0 ≡ judgeRow i row
+  sound : every isLength row ≡ true → eqb (getD row i 0) 0 ≡ true → 0 ≡ judgeRow i row
   unfolding judgeRow
   sound h k = rw (h, k)
 

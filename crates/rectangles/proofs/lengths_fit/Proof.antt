@@ -1,4 +1,4 @@
--- `lengths_fit`: the rows passed are within the limit.
+-- `lengths_fit`: a table may hold the rows passed.
 use mathlib.Core.Path.{_≡_, sym, _∙_}
 use mathlib.Core.Bool.{true}
 use Prim.Native.Nat.{_≤_, _-_}
