@@ -68,6 +68,7 @@ HOST_CONSTANTS = {
     "MAX_ARCS": "Network.MAX_ARCS",
     "ARC_SIZE": "Network.ARC_SIZE",
     "NO_TARGET": "Network.NO_TARGET",
+    "NO_PATH": "Network.NO_PATH",
     "RECTANGLE": "Session.RECTANGLE_PLACES",
     "INDEX": "Session.INDEX_PLACES",
     "INDEX_ROW": "Network.INDEX_PLACES",

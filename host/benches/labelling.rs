@@ -5,12 +5,14 @@
 //! before it labels, as it must; so the unproved one does too, by a check of its own. The plain Dijkstra does not. Both FR-Dijkstras
 //! keep the same five numbers for each interval and read the bests among them, but the unproved one finds the columns that a new row
 //! wins by walking outward from the row's place, where the proved one finds both ends by halving, and it finds a best by a scan, where
-//! the proved one asks an index. The index alone is measured at the end, beside a scan.
+//! the proved one asks an index. Where tracks are closed both look for columns that the row is the first to reach, and both checks
+//! compare the neighbours that are open. The index alone is measured at the end, beside a scan.
 
 use rabdzhine::{INDEX, LABELS, LENGTHS, SIZES, VERTICES};
 use reference::network::{weight, Lent, Plan, MAX_SIZE, MAX_VERTICES, ROOM};
 use reference::plans::{
-    city, hostile, lent_rectangle, longest_street, rectangle, Kind, Rng, KINDS, TOWN_STREET,
+    city, city_with_works, cut_off, hostile, lent_rectangle, longest_street, narrowed, rectangle, rings,
+    Kind, Rng, CLOSED_KINDS, OPEN_KINDS, TOWN_STREET,
 };
 use reference::{dijkstra, fr_dijkstra, index, text};
 use std::hint::black_box;
@@ -268,6 +270,29 @@ fn print_index(rng: &mut Rng) {
     print_questions(&lengths, &held);
 }
 
+/// Tables of one of these kinds each, and of all of them.
+fn hostile_tables(kinds: [Kind; 5], rng: &mut Rng) -> Vec<(String, Plan)> {
+    let each = kinds.map(|kind| (format!("{kind:?}"), vec![kind]));
+    let all = each.into_iter().chain([("Mixed".into(), kinds.into())]);
+    all.map(|(name, kinds)| (name, hostile(MAX_VERTICES, &[ROOM; SIZES], &kinds, rng))).collect()
+}
+
+/// The largest town: as it is, with a third of each block closed, with one gate of each district cut off, with streets closed; and as many
+/// districts whose tracks lead one way round.
+fn closed_towns(rng: &mut Rng) -> Vec<(String, Plan)> {
+    let town = city(4, 4, 6, TOWN_STREET, rng);
+    let mut towns = vec![
+        ("open".to_string(), town.clone()),
+        ("third".into(), narrowed(town.clone())),
+        ("cut off".into(), cut_off(town, rng)),
+    ];
+    for works in [10, 4] {
+        towns.push((format!("1 in {works}"), city_with_works(4, 4, 6, TOWN_STREET, works, rng)));
+    }
+    towns.push(("rings".into(), rings(MAX_VERTICES, &[ROOM; SIZES], rng)));
+    towns
+}
+
 fn main() {
     let mut rng = Rng::new(2024);
     println!("Microseconds, medians of {ROUNDS} runs from each of {SOURCES} sources.");
@@ -286,18 +311,23 @@ fn main() {
         .map(|side| (format!("16 x {}", 4 * side), city(4, 4, side, TOWN_STREET, &mut rng)));
     let b = series("A town of 16 districts of more and more gates", towns.into(), true);
 
-    let mut kinds: Vec<(String, Vec<Kind>)> = KINDS.map(|kind| (format!("{kind:?}"), vec![kind])).into();
-    kinds.push(("Mixed".into(), KINDS.into()));
-    let tables = kinds
-        .into_iter()
-        .map(|(name, kinds)| (name, hostile(MAX_VERTICES, &[ROOM; SIZES], &kinds, &mut rng)));
-    let c = series("Hostile tables, 16 x 24", tables.collect(), false);
+    let c = series("Hostile tables, 16 x 24", hostile_tables(OPEN_KINDS, &mut rng), false);
 
     let lines = [TOWN_STREET, longest_street(6)]
         .map(|longest| (format!("to {longest}"), city(4, 4, 6, longest, &mut rng)));
     let d = series("Streets of a town and of an interurban line, 16 x 24", lines.into(), false);
 
     println!("\nLargest label/FR: {:.2}. The bar is 1.5.", a.max(b).max(c).max(d));
+
+    println!("\nthird: of each block of three columns or more a third is closed. cut off: one gate of each district, one way or both.");
+    println!(
+        "1 in 10, 1 in 4: so many streets are closed. rings: all tracks lead to the next gate clockwise."
+    );
+    let towns = closed_towns(&mut Rng::new(2025));
+    let e = series("A town with closed tracks, 16 x 24", towns, false);
+    let tables = hostile_tables(CLOSED_KINDS, &mut Rng::new(2026));
+    let f = series("Hostile tables with closed tracks, 16 x 24", tables, false);
+    println!("\nLargest label/FR with closed tracks: {:.2}.", e.max(f));
 
     print_index(&mut rng);
 }

@@ -1,5 +1,5 @@
-/* What a unit's firmware does: reads plans, labels gates, prints a route leg by leg, asks one block a few calls, and its index for the
- * least of a row. */
+/* What a unit's firmware does: reads plans, with closed tracks too, labels gates, prints a route leg by leg, asks one block a few calls, and its
+ * index for the least of a row. */
 #include <stdio.h>
 #include <string.h>
 
@@ -25,6 +25,17 @@ static const char ROUTE_PLAN[] =
     "     8     0\n"
     "     1     3\n";
 
+/* the same with the track from gate 2 to gate 3 closed, and no target */
+static const char CLOSED_PLAN[] =
+    "     3     2\n"
+    "     2     1     2\n"
+    "     0     5\n"
+    "     6     0\n"
+    "     2     2     3\n"
+    "     0     -\n"
+    "     8     0\n"
+    "     1\n";
+
 /* static: a small stack need not hold them */
 static uint32_t sizes[RABDZHINE_SIZES], vertices[RABDZHINE_VERTICES], lengths[RABDZHINE_LENGTHS], labels[RABDZHINE_LABELS];
 static uint32_t arcs[RABDZHINE_ROUTE_PLACES];
@@ -41,8 +52,8 @@ static rabdzhine_read_answer read_plan(const char *text) {
     return plan;
 }
 
-static int label_plan(void) {
-    rabdzhine_read_answer plan = read_plan(PLAN);
+static int label_plan(const char *text) {
+    rabdzhine_read_answer plan = read_plan(text);
     if (plan.number != 0) {
         return 1;
     }
@@ -83,9 +94,9 @@ static void fill_block(void) {
     rectangle[0] = 5, rectangle[1] = 7, rectangle[24] = 6, rectangle[25] = 4;
 }
 
-static void run_calls(void) {
-    static const uint32_t script[12] = {1, 0, 0, 1, 1, 2, 2, 0, 0, 1, 1, 9};
-    memcpy(calls, script, sizeof script);
+/* four calls on the block */
+static void run_calls(const uint32_t script[12]) {
+    memcpy(calls, script, 12 * sizeof script[0]);
     rabdzhine_session_answer done = rabdzhine_run_session(2, 2, 4, rectangle, RABDZHINE_RECTANGLE, calls, RABDZHINE_CALLS,
                                                           answers, RABDZHINE_ANSWERS, intervals, RABDZHINE_INTERVALS);
     printf("number %u, %u brought in, %u dropped\n", (unsigned)done.number, (unsigned)done.inserted, (unsigned)done.removed);
@@ -96,6 +107,13 @@ static void run_calls(void) {
         printf("row %u owns columns %u to %u, best column %u, sum %u\n", (unsigned)intervals[k], (unsigned)intervals[k + 1],
                (unsigned)intervals[k + 2], (unsigned)intervals[k + 3], (unsigned)intervals[k + 4]);
     }
+}
+
+/* no run leads from row 0 to column 1: there is nothing to take until row 1 is told */
+static void run_calls_on_closed(void) {
+    static const uint32_t script[12] = {1, 0, 0, 2, 0, 0, 2, 0, 0, 1, 1, 5};
+    rectangle[1] = RABDZHINE_NO_PATH;
+    run_calls(script);
 }
 
 /* both rows whole, one column of the first, and a stretch that leaves the row */
@@ -114,14 +132,16 @@ static void ask_block(void) {
 }
 
 int main(void) {
+    static const uint32_t script[12] = {1, 0, 0, 1, 1, 2, 2, 0, 0, 1, 1, 9};
     uint32_t value = 0;
     uint8_t line[RABDZHINE_LINE + 1] = "                                    ";
-    if (label_plan() != 0) {
+    if (label_plan(PLAN) != 0) {
         return 1;
     }
     fill_block();
-    run_calls();
+    run_calls(script);
     ask_block();
+    run_calls_on_closed();
     printf("check %u\n", (unsigned)rabdzhine_check_network(5, 1, sizes, RABDZHINE_SIZES, vertices, RABDZHINE_VERTICES, lengths,
                                                            RABDZHINE_LENGTHS));
     printf("field %u", (unsigned)rabdzhine_read_field((const uint8_t *)PLAN, strlen(PLAN), 37, &value, 1));
@@ -129,7 +149,7 @@ int main(void) {
     printf("place 2: %u, place 4: %u, line [", (unsigned)rabdzhine_write_field(line, RABDZHINE_LINE, 2, 42),
            (unsigned)rabdzhine_write_field(line, RABDZHINE_LINE, 4, 42));
     printf("%s]\n", (const char *)line);
-    if (print_route() != 0) {
+    if (print_route() != 0 || label_plan(CLOSED_PLAN) != 0) {
         return 1;
     }
     size_t written = rabdzhine_write_listing((const uint8_t *)PLAN, strlen(PLAN), listing, RABDZHINE_LISTING);

@@ -20,7 +20,7 @@
  *   3   the text is not in the layout
  *   4   a size (n, p, m, rows, columns), how many calls there are, or a field's place is out of bounds
  *   5   a gate is not one of 1 to n, or its district lists it twice
- *   6   a length is above 999,999 (no field of a text is), or a diagonal is not 0
+ *   6   a length is above 999,999 (no field of a text is) and is not no path, or a diagonal is not 0
  *   7   a block fails its check
  *   8   the source is outside 1 to n
  *   12  the target is outside 1 to n
@@ -78,6 +78,10 @@ extern "C" {
 /* The label of a gate that no run reaches, and of a place above n. */
 #define RABDZHINE_UNREACHED UINT32_C(4294967295)
 
+/* In place of a length, where no run exists inside the district: `-` in a length field of a text. It is never on the diagonal, above every number, and
+ * plus anything no path. */
+#define RABDZHINE_NO_PATH UINT32_C(4294967295)
+
 /* The largest length, in metres: it fills a field of a text. */
 #define RABDZHINE_MAX_LENGTH UINT32_C(999999)
 
@@ -91,10 +95,10 @@ extern "C" {
  */
 #define RABDZHINE_STACK_READ_FIELD 128
 #define RABDZHINE_STACK_WRITE_FIELD 128
-#define RABDZHINE_STACK_READ_TEXT 1792
-#define RABDZHINE_STACK_CHECK_NETWORK 1536
-#define RABDZHINE_STACK_LABEL_NETWORK 180224
-#define RABDZHINE_STACK_ROUTE_NETWORK 180224
+#define RABDZHINE_STACK_READ_TEXT 2048
+#define RABDZHINE_STACK_CHECK_NETWORK 1792
+#define RABDZHINE_STACK_LABEL_NETWORK 188416
+#define RABDZHINE_STACK_ROUTE_NETWORK 188416
 #define RABDZHINE_STACK_RUN_SESSION 8704
 #define RABDZHINE_STACK_BUILD_INDEX 7680
 #define RABDZHINE_STACK_ASK_INDEX 640
@@ -146,7 +150,7 @@ uint32_t rabdzhine_read_field(const uint8_t *text, size_t text_len, size_t at, u
 uint32_t rabdzhine_write_field(uint8_t *line, size_t line_len, size_t place, uint32_t x);
 
 /*
- * Reads a plan: 16 sizes, 384 gates, 9,216 lengths, unused places 0.
+ * Reads a plan: 16 sizes, 384 gates, 9,216 lengths, RABDZHINE_NO_PATH for a length that is `-`, unused places 0.
  * Returns 0 with n, p, the source and the target. 1 and 2 leave the buffers; 3 to 8 and 12 leave 0 in every place of them.
  */
 rabdzhine_read_answer rabdzhine_read_text(const uint8_t *text, size_t text_len,
@@ -155,7 +159,8 @@ rabdzhine_read_answer rabdzhine_read_text(const uint8_t *text, size_t text_len,
                                           uint32_t *lengths, size_t lengths_len);
 
 /*
- * Judges a network in buffers as the reader fills them. Places that its sizes do not use are not read.
+ * Judges a network in buffers as the reader fills them. Places that its sizes do not use are not read. A block passes its check if every two
+ * rows and every two columns of it do, neighbours or not.
  * Returns 0, or 1, 4, 5, 6 or 7.
  */
 uint32_t rabdzhine_check_network(uint32_t n, uint32_t p,
@@ -164,7 +169,8 @@ uint32_t rabdzhine_check_network(uint32_t n, uint32_t p,
                                  const uint32_t *lengths, size_t lengths_len);
 
 /*
- * Labels every gate with the metres of the shortest run from the source. It judges the network again, then the source.
+ * Labels every gate with the metres of the shortest run from the source; no leg of a run is no path. It judges the network again, then the
+ * source.
  * Returns 0 with gates reached, takes and intervals brought in; labels then holds the label of gate v at v - 1, and
  * RABDZHINE_UNREACHED where no run leads and behind gate n. A refusal, 1 or 4 to 8, leaves labels.
  */
@@ -190,7 +196,8 @@ rabdzhine_route_answer rabdzhine_route_network(uint32_t n, uint32_t p,
 
 /*
  * Runs 0 to 64 calls on the heap of one block of 1 to 24 rows and columns, from a fresh heap. Row i of the rectangle starts at place 24 * i.
- * A call is kind (1 tell, 2 take), row, value; its answer is code (0, 50 or 9 to 11), column, sum.
+ * A call is kind (1 tell, 2 take), row, value; its answer is code (0, 50 or 9 to 11), column, sum. A column that no told row has a path to
+ * is in no interval and never handed out. A tell brings in at most three intervals, and one more for each column that is all no path.
  * Returns 0 with intervals brought in and dropped; answers then holds an answer for each call, unused places 0, and intervals the kept
  * intervals by rising first column, each as owner, first column, last column, best column, best sum, unused places 255. For the counts
  * two intervals are the same if their first three numbers are. A refusal, 1, 4, 6 or 7, leaves both.
@@ -213,8 +220,9 @@ uint32_t rabdzhine_build_index(uint32_t rows, uint32_t cols,
 
 /*
  * Asks an index for a stretch of a row: the columns from `first` up to the one before `end`, counted from 0.
- * Returns 0 with the lowest column of least length there, if the index was built from these lengths. A row that is not there, a stretch that
- * is empty and one that leaves the row get RABDZHINE_NOTHING. Refused are 1 and 4; lengths and the inequality are not judged once more.
+ * Returns 0 with the lowest column of least length there, if the index was built from these lengths: the lowest of all, if the stretch is all no
+ * path. A row that is not there, a stretch that is empty and one that leaves the row get RABDZHINE_NOTHING. Refused are 1 and 4; lengths and
+ * the inequality are not judged once more.
  * An index may hold any bytes: a number that is no column of its stretch counts as the first one of it, so that the answer is always a
  * column of what was asked for.
  */

@@ -70,6 +70,9 @@ pub const LISTING: usize = 9472;
 pub const NO_TARGET: u32 = u32::MAX;
 /// The label of a gate that no run reaches, and of a place above n.
 pub const UNREACHED: u32 = u32::MAX;
+/// In place of a length, where no run exists inside the district: `-` in a length field of a text. It is never on the diagonal, above every
+/// number, and plus anything no path.
+pub const NO_PATH: u32 = u32::MAX;
 /// The largest length, in metres: it fills a field of a text.
 pub const MAX_LENGTH: u32 = 999_999;
 /// The largest label, and the largest value of a tell: a run of 255 such lengths. A take's sum may be [`MAX_LENGTH`] more.
@@ -82,13 +85,13 @@ pub const STACK_READ_FIELD: usize = 128;
 /// Bytes of stack for [`write_field`].
 pub const STACK_WRITE_FIELD: usize = 128;
 /// Bytes of stack for [`read_text`].
-pub const STACK_READ_TEXT: usize = 1792;
+pub const STACK_READ_TEXT: usize = 2048;
 /// Bytes of stack for [`check_network`].
-pub const STACK_CHECK_NETWORK: usize = 1536;
+pub const STACK_CHECK_NETWORK: usize = 1792;
 /// Bytes of stack for [`label_network`].
-pub const STACK_LABEL_NETWORK: usize = 180_224;
+pub const STACK_LABEL_NETWORK: usize = 188_416;
 /// Bytes of stack for [`route_network`].
-pub const STACK_ROUTE_NETWORK: usize = 180_224;
+pub const STACK_ROUTE_NETWORK: usize = 188_416;
 /// Bytes of stack for [`run_session`].
 pub const STACK_RUN_SESSION: usize = 8704;
 /// Bytes of stack for [`build_index`].
@@ -175,7 +178,7 @@ pub fn write_field(line: &mut [u8], place: usize, x: u32) -> u32 {
     unsafe { raw::rabdzhine_write_field(line.as_mut_ptr(), line.len(), place, x) }
 }
 
-/// Reads a plan into the three buffers.
+/// Reads a plan into the three buffers; a length that is `-` becomes [`NO_PATH`].
 pub fn read_text(text: &[u8], sizes: &mut [u32], vertices: &mut [u32], lengths: &mut [u32]) -> ReadAnswer {
     unsafe {
         raw::rabdzhine_read_text(
@@ -207,7 +210,7 @@ pub fn check_network(n: u32, p: u32, sizes: &[u32], vertices: &[u32], lengths: &
     }
 }
 
-/// Labels the gates of a network with the metres from the source. A refusal leaves `labels`.
+/// Labels the gates of a network with the metres from the source; no leg of a run is [`NO_PATH`]. A refusal leaves `labels`.
 pub fn label_network(
     n: u32,
     p: u32,
@@ -294,16 +297,16 @@ pub fn route_network(
 }
 
 /// Runs calls on the heap of one block. The kept intervals stand in `intervals` by rising first column, [`INTERVAL_SIZE`] numbers each. A
-/// refusal leaves `answers` and `intervals`.
+/// column that no told row has a path to is in no interval and never handed out. A refusal leaves `answers` and `intervals`.
 ///
 /// ```
-/// use rabdzhine::{run_session, ANSWERS, CALLS, INTERVALS, INTERVAL_SIZE, RECTANGLE, UNUSED};
+/// use rabdzhine::{run_session, ANSWERS, CALLS, INTERVALS, INTERVAL_SIZE, NO_PATH, RECTANGLE, UNUSED};
 ///
 /// let (mut lengths, mut calls) = ([0; RECTANGLE], [0; CALLS]);
-/// lengths[..4].copy_from_slice(&[3, 1, 2, 1]);
+/// lengths[..5].copy_from_slice(&[3, 1, 2, 1, NO_PATH]); // no run leads to the last column
 /// calls[..6].copy_from_slice(&[1, 0, 10, 2, 0, 0]); // row 0 is told 10, then a column is taken
 /// let (mut answers, mut intervals) = ([0; ANSWERS], [0; INTERVALS]);
-/// let answer = run_session(1, 4, 2, &lengths, &calls, &mut answers, &mut intervals);
+/// let answer = run_session(1, 5, 2, &lengths, &calls, &mut answers, &mut intervals);
 /// assert_eq!((answer.number, answer.inserted, answer.removed), (0, 3, 1));
 /// assert_eq!(answers[3..6], [0, 1, 11]);
 ///
@@ -368,7 +371,7 @@ pub fn build_index(rows: u32, cols: u32, lengths: &[u32], index: &mut [u8]) -> u
 
 /// Asks an index for the lowest column of least length of a row, from column `first` up to the one before `end`. A row that is not there, a
 /// stretch that is empty and one that leaves the row get [`NOTHING`]. The lengths are those that the index was built from: they are not
-/// judged once more. From any other bytes the answer is some column of the stretch.
+/// judged once more. A stretch of nothing but [`NO_PATH`] has its lowest column. From any other bytes the answer is some column of the stretch.
 pub fn ask_index(
     rows: u32,
     cols: u32,

@@ -24,12 +24,23 @@ row 0 from column 0 up to 2: code 0, column 0
 row 1 from column 0 up to 2: code 0, column 1
 row 0 from column 1 up to 2: code 0, column 1
 row 0 from column 1 up to 3: code 50, column 0
+number 0, 2 brought in, 1 dropped
+code 0, column 0, sum 0
+code 0, column 0, sum 5
+code 50, column 0, sum 0
+code 0, column 0, sum 0
+row 1 owns columns 1 to 1, best column 1, sum 9
 check 0
 field 0 4
 place 2: 0, place 4: 4, line [                         42         ]
 number 0, gate 1 to gate 3: 12 m, 2 legs
 gate 1 to gate 2 in district 1: 5 m
 gate 2 to gate 3 in district 2: 7 m
+3 gates, 2 districts, from gate 1
+number 0, 2 gates reached, 2 takes, 2 brought in
+gate 1: 0 m
+gate 2: 5 m
+gate 3: no run
 ";
 
 #[test]

@@ -17,6 +17,7 @@ fn fields_are_read() {
     let mut value = [7];
     assert_eq!((read_field(b"  1024", 0, &mut value), value), (0, [1024]));
     assert_eq!((read_field(b"    00", 0, &mut value), value), (3, [0]));
+    assert_eq!((read_field(b"     -", 0, &mut value), value), (3, [0])); // a length field alone may be so
     let mut rng = Rng::new(1);
     let numbers = [0, 1, 9, 10, 99, 100, 1_000, 99_999, 100_000, MAX_FIELD];
     for x in numbers {

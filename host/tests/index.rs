@@ -1,6 +1,6 @@
 //! The index of one block against the model: what it holds, and what it answers for every stretch.
 
-use rabdzhine::{ask_index, build_index, LeastAnswer, INDEX, INDEX_ROW, NOTHING, RECTANGLE};
+use rabdzhine::{ask_index, build_index, LeastAnswer, INDEX, INDEX_ROW, NOTHING, NO_PATH, RECTANGLE};
 use reference::network::{MAX_LENGTH, MAX_SIZE, ROOM};
 use reference::plans::{lent_rectangle, rectangle, Rng, KINDS};
 use reference::vectors::{of_the_index, Asked};
@@ -107,6 +107,22 @@ fn the_lowest_of_equal_columns() {
     }
 }
 
+/// No path is above every number: a stretch of nothing else has its lowest column.
+#[test]
+fn a_stretch_without_a_path() {
+    let block = Block::of(&[[3, NO_PATH, NO_PATH, NO_PATH, 1]], 0);
+    let index = block.built();
+    assert_eq!(index[..5], [4, 0, 4, 4, 0]);
+    assert_eq!(block.ask(&index, [0, 1, 4]), LeastAnswer { code: 0, column: 1 });
+    assert_eq!(block.ask(&index, [0, 2, 4]), LeastAnswer { code: 0, column: 2 });
+    assert_eq!(block.ask(&index, [0, 1, 5]), LeastAnswer { code: 0, column: 4 });
+    let closed = Block::of(&[[NO_PATH; ROOM]; ROOM], 0);
+    let index = closed.built();
+    for [row, first, end] in closed.stretches() {
+        assert_eq!(closed.ask(&index, [row, first, end]), LeastAnswer { code: 0, column: first });
+    }
+}
+
 /// Every number of columns with every stretch, of each kind of rectangle, with other numbers in the places that are not used.
 #[test]
 fn every_stretch_of_every_size() {
@@ -114,7 +130,7 @@ fn every_stretch_of_every_size() {
     for cols in 1..=ROOM {
         for kind in KINDS {
             for rows in [1, 2, rng.from(3, MAX_SIZE - 1) as usize, ROOM] {
-                let unused = rng.pick(&[0, 7, u32::MAX]);
+                let unused = rng.pick(&[0, 7, NO_PATH - 1]);
                 let block = Block::of(&rectangle(rows, cols, kind, &mut rng), unused);
                 let (number, index) = compare_build(&block, INDEX);
                 assert_eq!(number, 0);
@@ -130,7 +146,7 @@ fn unused_places_are_0() {
     let mut rng = Rng::new(62);
     for _ in 0..400 {
         let (rows, cols) = (rng.from(1, MAX_SIZE) as usize, rng.from(1, MAX_SIZE) as usize);
-        let block = Block::of(&rectangle(rows, cols, rng.pick(&KINDS), &mut rng), u32::MAX);
+        let block = Block::of(&rectangle(rows, cols, rng.pick(&KINDS), &mut rng), NO_PATH - 1);
         for (i, places) in block.built().chunks(INDEX_ROW).enumerate() {
             let used = if i < rows { cols - 1 } else { 0 };
             assert!(places[..used].iter().all(|&column| usize::from(column) < cols), "row {i} of {block:?}");
@@ -210,7 +226,8 @@ fn spoiled_blocks() {
         match rng.below(6) {
             0 => block.rows = rng.pick(&[0, MAX_SIZE + 1, u32::MAX]),
             1 => block.cols = rng.pick(&[0, MAX_SIZE + 1, u32::MAX]),
-            2 => block.lengths[used] = rng.pick(&[MAX_LENGTH + 1, u32::MAX]),
+            2 => block.lengths[used] = rng.pick(&[MAX_LENGTH + 1, NO_PATH - 1]),
+            3 => block.lengths[used] = NO_PATH,
             _ => block.lengths[used] = rng.below(MAX_LENGTH + 1),
         }
         met.insert(compare_build(&block, INDEX).0);

@@ -1,10 +1,10 @@
 //! The check and the labelling of a lent network against the model and against a plain Dijkstra.
 
-use rabdzhine::{check_network, label_network, LabelAnswer, LABELS};
-use reference::damage::spoiled_lent;
-use reference::network::Lent;
-use reference::plans::{all, Rng};
-use reference::{dijkstra, entries};
+use rabdzhine::{check_network, label_network, LabelAnswer, LABELS, MAX_LABEL, NO_PATH, UNREACHED};
+use reference::damage::{one_way_and, spoiled_lent};
+use reference::network::{Lent, ROOM};
+use reference::plans::{all, farthest, Rng};
+use reference::{dijkstra, entries, text};
 use std::collections::BTreeSet;
 
 fn check(lent: &Lent) -> u32 {
@@ -30,10 +30,10 @@ fn compare(lent: &Lent, source: u32, places: usize) -> u32 {
 fn sound_networks() {
     for plan in all(21) {
         // what stands in places that are not used must not matter
-        for unused in [0, 7, u32::MAX] {
+        for unused in [0, 7, NO_PATH - 1, NO_PATH] {
             assert_eq!(check(&Lent::of(&plan, unused)), 0);
         }
-        assert_eq!(compare(&Lent::of(&plan, u32::MAX), plan.source, LABELS), 0);
+        assert_eq!(compare(&Lent::of(&plan, NO_PATH - 1), plan.source, LABELS), 0);
     }
 }
 
@@ -48,6 +48,80 @@ fn every_source_of_a_plan() {
         for source in [0, plan.n + 1, 257, u32::MAX] {
             assert_eq!(compare(&lent, source, LABELS), 8);
         }
+    }
+}
+
+/// The labels of a network that is accepted.
+fn labels_of(lent: &Lent, source: u32) -> Vec<u32> {
+    let mut labels = vec![7; LABELS];
+    let Lent { n, p, sizes, vertices, lengths } = lent;
+    assert_eq!(label_network(*n, *p, sizes, vertices, lengths, source, &mut labels).number, 0);
+    labels
+}
+
+/// Vertices behind a closed track are not reached, and they reach the others.
+#[test]
+fn a_closed_track() {
+    let lent = Lent::of(&text::read(&one_way_and("     1\n")).expect("a sound text"), 7);
+    assert_eq!(labels_of(&lent, 1)[..4], [0, UNREACHED, UNREACHED, UNREACHED]);
+    assert_eq!(labels_of(&lent, 2)[..4], [6, 0, 7, UNREACHED]);
+    assert_eq!(labels_of(&lent, 3)[..4], [14, 8, 0, UNREACHED]);
+}
+
+/// A chain of 256 vertices, each arc of the largest length: the label of the last one is the largest there is.
+#[test]
+fn the_largest_label() {
+    let plan = farthest(&mut Rng::new(26));
+    let (lent, target) = (Lent::of(&plan, 0), plan.target.expect("the last vertex"));
+    let labels = labels_of(&lent, plan.source);
+    assert_eq!(labels[target as usize - 1], MAX_LABEL);
+    assert_eq!(labels.iter().max(), Some(&MAX_LABEL));
+    assert_eq!(compare(&lent, plan.source, LABELS), 0);
+    assert_eq!(labels_of(&lent, target).iter().filter(|&&label| label != UNREACHED).count(), 1);
+}
+
+/// From every source, also from those that no run leads from.
+#[test]
+fn every_source_of_plans_with_no_path() {
+    let plans = all(27);
+    let small: Vec<_> = plans.iter().filter(|plan| plan.has_no_path() && plan.n <= 60).collect();
+    assert!(small.len() > 40);
+    for plan in small {
+        let lent = Lent::of(plan, NO_PATH - 1);
+        for source in 1..=plan.n {
+            assert_eq!(compare(&lent, source, LABELS), 0);
+        }
+    }
+}
+
+#[test]
+fn many_plans_with_no_path() {
+    for seed in 200..212 {
+        for plan in all(seed).iter().filter(|plan| plan.has_no_path()) {
+            let lent = Lent::of(plan, 7);
+            assert_eq!(check(&lent), 0);
+            assert_eq!(compare(&lent, plan.source, LABELS), 0);
+        }
+    }
+}
+
+/// Never on the diagonal; off it the number below no path is no length.
+#[test]
+fn no_path_where_it_may_not_be() {
+    let plans = all(28);
+    for plan in plans.iter().filter(|plan| plan.pieces[0].vertices.len() > 1).take(60) {
+        let sound = Lent::of(plan, 7);
+        let with = |place: usize, length: u32| {
+            let mut lent = sound.clone();
+            lent.lengths[place] = length;
+            compare(&lent, plan.source, LABELS)
+        };
+        let m = plan.pieces[0].vertices.len();
+        for i in [0, m - 1] {
+            assert_eq!(with(ROOM * i + i, NO_PATH), 6);
+        }
+        assert_eq!(with(1, NO_PATH - 1), 6);
+        assert!([0, 7].contains(&with(1, NO_PATH)));
     }
 }
 

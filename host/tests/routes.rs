@@ -1,10 +1,13 @@
 //! The route to a target in a lent network against the model, and against what document 02, request 4, says of every route.
 
-use rabdzhine::{route_network, RouteAnswer, ARC_SIZE, MAX_ARCS, NO_TARGET, ROUTE_PLACES, UNREACHED};
-use reference::damage::{chain_and, spoiled_lent, CHAIN_QUESTION};
+use rabdzhine::{
+    route_network, RouteAnswer, ARC_SIZE, MAX_ARCS, MAX_LABEL, MAX_LENGTH, NO_PATH, NO_TARGET, ROUTE_PLACES,
+    UNREACHED,
+};
+use reference::damage::{chain_and, one_way_and, spoiled_lent, CHAIN_QUESTION};
 use reference::model::label_plan;
 use reference::network::{Lent, Plan, LABELS};
-use reference::plans::{all, path, Rng};
+use reference::plans::{all, farthest, path, Rng};
 use reference::routes::assert_route;
 use reference::{dijkstra, entries, text};
 use std::collections::BTreeSet;
@@ -32,7 +35,7 @@ fn compare(lent: &Lent, source: u32, target: u32, places: usize) -> u32 {
 /// many arcs the longest has.
 fn compare_every_target(plan: &Plan) -> usize {
     // what stands in places that are not used must not matter
-    let lent = Lent::of(plan, u32::MAX);
+    let lent = Lent::of(plan, NO_PATH - 1);
     let done = label_plan(plan);
     let mut labels = [0; LABELS];
     dijkstra::label(&lent, plan.source, &mut labels);
@@ -68,6 +71,43 @@ fn the_chain_example() {
     assert_eq!(shown(1, 5), (12, 0, 0, vec![7; 9]));
     assert_eq!(shown(1, NO_TARGET), (12, 0, 0, vec![7; 9]));
     assert_eq!(shown(5, 5), (8, 0, 0, vec![7; 9]));
+}
+
+/// To a vertex behind a closed track there is no route; the way back is open.
+#[test]
+fn a_closed_track() {
+    let plan = text::read(&one_way_and("     1     3\n")).expect("a sound text");
+    let lent = Lent::of(&plan, 7);
+    let mut arcs = [7; ROUTE_PLACES];
+    let unreached = RouteAnswer { number: 0, label: UNREACHED, arcs: 0 };
+    assert_eq!(route(&lent, 1, 3, &mut arcs), unreached);
+    assert_eq!(arcs, [0; ROUTE_PLACES]);
+    assert_eq!(route(&lent, 3, 1, &mut arcs), RouteAnswer { number: 0, label: 14, arcs: 2 });
+    assert_eq!(arcs[..9], [3, 2, 2, 8, 2, 1, 1, 6, 0]);
+    compare_every_target(&plan);
+}
+
+/// A chain of 256 vertices: 255 arcs of the largest length.
+#[test]
+fn the_route_of_the_largest_label() {
+    let plan = farthest(&mut Rng::new(58));
+    let (lent, target) = (Lent::of(&plan, 7), plan.target.expect("the last vertex"));
+    let mut arcs = [7; ROUTE_PLACES];
+    let answer = route(&lent, plan.source, target, &mut arcs);
+    assert_eq!(answer, RouteAnswer { number: 0, label: MAX_LABEL, arcs: MAX_ARCS as u32 });
+    assert!(arcs.chunks(ARC_SIZE).all(|arc| arc[3] == MAX_LENGTH));
+    assert_eq!(compare_every_target(&plan), MAX_ARCS);
+}
+
+/// No route uses an arc that is no path: `assert_route` sees to it.
+#[test]
+fn every_source_and_target_of_plans_with_no_path() {
+    let plans = all(59);
+    for plan in plans.iter().filter(|plan| plan.has_no_path() && plan.n <= 30).take(40) {
+        for source in 1..=plan.n {
+            compare_every_target(&Plan { source, ..plan.clone() });
+        }
+    }
 }
 
 #[test]

@@ -1,11 +1,12 @@
 //! Sessions on one block against the model.
 
 use rabdzhine::{run_session, SessionAnswer};
-use rabdzhine::{ANSWERS, CALLS, INTERVALS, INTERVAL_SIZE, RECTANGLE, UNUSED};
+use rabdzhine::{ANSWERS, CALLS, INTERVALS, INTERVAL_SIZE, NO_PATH, RECTANGLE, UNUSED};
 use reference::entries;
 use reference::model::MAX_LABEL;
 use reference::network::{MAX_CALLS, MAX_LENGTH, MAX_SIZE, ROOM};
-use reference::plans::{lent_rectangle, session, Rng, Session, KINDS};
+use reference::plans::{lent_rectangle, most_inserted, session, Rng, Session, CLOSED_KINDS, KINDS};
+use reference::vectors::{of_sessions, Played};
 use std::collections::BTreeSet;
 
 /// The outputs start with 7 in them. Returns the number, the answers and the intervals.
@@ -98,6 +99,124 @@ fn the_largest_length_value_and_sum() {
     assert_eq!(compare(&s, PLACES).0, 6);
 }
 
+/// What neighbouring corners pass, of rows and of columns, and what is no path rather than a large number.
+#[test]
+fn the_check_of_blocks_with_no_path() {
+    const X: u32 = NO_PATH;
+    let number = |s: Session| compare(&s, PLACES).0;
+    assert_eq!(number(on(&[[5, X, 0], [0, X, 0]], &[])), 7);
+    assert_eq!(number(on(&[[0, X, 0], [0, X, 1]], &[])), 7);
+    assert_eq!(number(on(&[[0, 0], [X, X], [0, 1]], &[])), 7);
+    assert_eq!(number(on(&[[X, 0], [0, X]], &[])), 7);
+    assert_eq!(number(on(&[[X, 0], [0, 0]], &[])), 7);
+    assert_eq!(number(on(&[[0, X], [X, 0]], &[])), 0);
+    assert_eq!(number(on(&[[0, X], [0, 0]], &[])), 0);
+    assert_eq!(number(on(&[[0, X, 0], [0, X, 0]], &[])), 0);
+    assert_eq!(number(on(&[[X; 24]; 24], &[])), 0);
+    assert_eq!(number(on(&[[X]], &[])), 0);
+    assert_eq!(number(on(&[[X - 1]], &[])), 6);
+}
+
+/// All blocks of three rows and three columns with these lengths.
+#[test]
+fn the_check_of_all_small_blocks() {
+    let mut met = BTreeSet::new();
+    for number in 0..3usize.pow(9) {
+        let length = |place: u32| [0, 1, NO_PATH][number / 3usize.pow(place) % 3];
+        let rows = [0, 1, 2].map(|i| [0, 1, 2].map(|k| length(3 * i + k)));
+        met.insert(compare(&on(&rows, &[]), PLACES).0);
+    }
+    assert_eq!(met, BTreeSet::from([0, 7]));
+}
+
+/// Column 2 is closed: row 1 wins on both sides of it, and what is left of the others is new too, four intervals in all.
+#[test]
+fn a_closed_column_parts_the_intervals_of_a_row() {
+    const X: u32 = NO_PATH;
+    let rectangle = [[0, 1, X, 3, 4], [2, 1, X, 1, 2], [4, 3, X, 1, 0]];
+    let two = on(&rectangle, &[[1, 0, 1], [1, 2, 1]]);
+    let three = on(&rectangle, &[[1, 0, 1], [1, 2, 1], [1, 1, 0]]);
+    assert_kept(&two, &[[0, 0, 1, 0, 1], [2, 3, 4, 4, 1]]);
+    assert_kept(&three, &[[0, 0, 0, 0, 1], [1, 1, 1, 1, 1], [1, 3, 3, 3, 1], [2, 4, 4, 4, 1]]);
+    assert_eq!((inserted(&two), inserted(&three)), (3, 7));
+}
+
+/// How many intervals a session inserts.
+fn inserted(s: &Session) -> u32 {
+    let [mut answers, mut intervals] = PLACES.map(|size| vec![0; size]);
+    run_session(s.rows, s.cols, s.count, &s.lengths, &s.calls, &mut answers, &mut intervals).inserted
+}
+
+/// Document 02, request 7: a tell brings in at most three intervals and one for each closed column. It can be so many.
+#[test]
+fn the_most_intervals_of_a_tell() {
+    for closed in 0..=10 {
+        let s = most_inserted(closed as usize);
+        assert_eq!(compare(&s, PLACES).0, 0);
+        assert_eq!(inserted(&s) - inserted(&Session { count: 2, ..s.clone() }), 3 + closed);
+    }
+}
+
+/// A take has nothing to hand out though a column is left, until a row is told that reaches it.
+#[test]
+fn a_column_without_a_path_is_not_handed_out() {
+    let closed = on(&[[5, NO_PATH], [6, NO_PATH]], &[[1, 0, 0], [1, 1, 0], [2, 0, 0], [2, 0, 0]]);
+    let (_, answers, _) = compare(&closed, PLACES);
+    assert_eq!(answers[..12], [0, 0, 0, 0, 0, 0, 0, 0, 5, 50, 0, 0]);
+    assert_kept(&closed, &[]);
+    let later = [[1, 0, 0], [2, 0, 0], [2, 0, 0], [1, 1, 5], [2, 0, 0]];
+    let (_, answers, _) = compare(&on(&[[5, NO_PATH], [6, 4]], &later), PLACES);
+    assert_eq!(answers[..15], [0, 0, 0, 0, 0, 5, 50, 0, 0, 0, 0, 0, 0, 1, 9]);
+    assert_kept(&on(&[[5, NO_PATH], [6, 4]], &later[..4]), &[[1, 1, 1, 1, 9]]);
+}
+
+/// Nothing to tell: every row told, and no interval.
+#[test]
+fn a_block_without_a_path_keeps_nothing() {
+    let mut calls: Vec<[u32; 3]> = (0..24).map(|row| [1, row, row]).collect();
+    calls.push([2, 0, 0]);
+    let s = on(&[[NO_PATH; 24]; 24], &calls);
+    let (_, answers, _) = compare(&s, PLACES);
+    assert_eq!(answers[..72], [0; 72]);
+    assert_eq!(answers[72..75], [50, 0, 0]);
+    assert_kept(&s, &[]);
+    assert_eq!(inserted(&s), 0);
+}
+
+/// Takes that answer 50 with columns left, and tells that bring in more than three, are among them.
+#[test]
+fn sound_sessions_with_no_path() {
+    let mut rng = Rng::new(34);
+    let (mut left, mut most) = (0, 0);
+    for kind in CLOSED_KINDS.repeat(1_500) {
+        let s = session(kind, rng.pick(&[0, 7, NO_PATH - 1, NO_PATH]), &mut rng);
+        let (number, answers, _) = compare(&s, PLACES);
+        assert_eq!(number, 0);
+        let answers: Vec<&[u32]> = answers.chunks(3).take(s.count as usize).collect();
+        let calls: Vec<&[u32]> = s.calls.chunks(3).take(s.count as usize).collect();
+        let taken = answers.iter().zip(&calls).filter(|(answer, call)| call[0] == 2 && answer[0] == 0);
+        let told = answers.iter().zip(&calls).any(|(answer, call)| call[0] == 1 && answer[0] == 0);
+        let nothing = answers.iter().any(|answer| answer[0] == 50);
+        left += u32::from(told && nothing && taken.count() < s.cols as usize);
+        let of_first = |count: u32| inserted(&Session { count, ..s.clone() });
+        most = most.max((0..s.count.min(3)).map(|k| of_first(k + 1) - of_first(k)).max().unwrap_or(0));
+    }
+    assert!(left > 100 && most > 3, "{left}, {most}");
+}
+
+/// The outside vectors, which the program `replay_sessions` runs too.
+#[test]
+fn stored_sessions_run_as_stored() {
+    for Played { session, returned, answers, intervals } in of_sessions() {
+        let Session { rows, cols, count, lengths, calls } = &session;
+        let [mut left_answers, mut left_intervals] = PLACES.map(|size| vec![7; size]);
+        let answer =
+            run_session(*rows, *cols, *count, lengths, calls, &mut left_answers, &mut left_intervals);
+        assert_eq!([answer.number, answer.inserted, answer.removed], returned, "{session:?}");
+        assert_eq!((left_answers, left_intervals), (answers, intervals), "{session:?}");
+    }
+}
+
 #[test]
 fn sound_sessions() {
     let mut rng = Rng::new(31);
@@ -105,7 +224,7 @@ fn sound_sessions() {
     let mut largest = 0;
     for _ in 0..400 {
         for kind in KINDS {
-            let s = session(kind, rng.pick(&[0, 7, u32::MAX]), &mut rng);
+            let s = session(kind, rng.pick(&[0, 7, NO_PATH - 1]), &mut rng);
             let (number, answers, _) = compare(&s, PLACES);
             assert_eq!(number, 0);
             for answer in answers.chunks(3).take(s.count as usize) {
@@ -150,7 +269,8 @@ fn spoiled_sessions() {
             0 => s.rows = rng.pick(&[0, MAX_SIZE + 1, u32::MAX]),
             1 => s.cols = rng.pick(&[0, MAX_SIZE + 1, u32::MAX]),
             2 => s.count = rng.pick(&[MAX_CALLS + 1, u32::MAX]),
-            3 => s.lengths[used as usize] = rng.pick(&[MAX_LENGTH + 1, u32::MAX]),
+            3 => s.lengths[used as usize] = rng.pick(&[MAX_LENGTH + 1, NO_PATH - 1]),
+            4 => s.lengths[used as usize] = NO_PATH,
             _ => s.lengths[used as usize] = rng.below(MAX_LENGTH + 1),
         }
         met.insert(compare(&s, PLACES).0);

@@ -1,11 +1,11 @@
 //! The text reader and the listing against the model, on sound and on damaged texts.
 
-use rabdzhine::{read_text, write_listing, ReadAnswer, LENGTHS, LISTING, SIZES, VERTICES};
-use reference::damage::{chain_and, long_lengths, scratched, spoiled, text, texts};
+use rabdzhine::{read_text, write_listing, ReadAnswer, LENGTHS, LISTING, NO_PATH, SIZES, VERTICES};
+use reference::damage::{chain_and, long_lengths, one_way_and, scratched, spoiled, text, texts};
 use reference::damage::{CHAIN_LISTING, CHAIN_QUESTION, DEPOT, DEPOT_LISTING};
 use reference::entries;
 use reference::network::Plan;
-use reference::plans::{all, path, Rng};
+use reference::plans::{all, farthest, path, Rng};
 use reference::text::write;
 use std::collections::BTreeSet;
 
@@ -38,6 +38,41 @@ fn the_depot_and_the_chain_example() {
         let mut out = [0; LISTING];
         let written = write_listing(&bytes, &mut out);
         assert_eq!(out[..written], listing);
+    }
+}
+
+/// A length field that is `-`, and what is listed where no run leads.
+#[test]
+fn a_closed_track() {
+    let bytes = one_way_and("     1\n");
+    let (mut sizes, mut vertices, mut lengths) = ([7; SIZES], [7; VERTICES], [7; LENGTHS]);
+    assert_eq!(read_text(&bytes, &mut sizes, &mut vertices, &mut lengths).number, 0);
+    assert_eq!(lengths[..3], [0, NO_PATH, 0]);
+    let listing = [
+        "        1        1        0        0",
+        "        1        0",
+        "        2        -",
+        "        3        -",
+    ];
+    let mut out = [0; LISTING];
+    let written = write_listing(&bytes, &mut out);
+    assert_eq!(out[..written], text(&listing));
+    for tail in ["     1\n", "     3\n", "     1     3\n", "     3     1\n", "     -\n", "     1     -\n"] {
+        compare(tail, &one_way_and(tail), PLACES);
+        compare_listing(tail, &one_way_and(tail), LISTING);
+    }
+}
+
+/// The largest label fills its nine columns.
+#[test]
+fn the_largest_label_is_listed() {
+    let plan = farthest(&mut Rng::new(15));
+    for target in [None, plan.target] {
+        let bytes = write(&Plan { target, ..plan.clone() });
+        compare_listing("the largest label", &bytes, LISTING);
+        let mut out = [0; LISTING];
+        let written = write_listing(&bytes, &mut out);
+        assert!(String::from_utf8_lossy(&out[..written]).contains("254999745"));
     }
 }
 

@@ -1,4 +1,4 @@
-// Dijkstra's algorithm on the tables as they are. Vertices count from 1; the distance of vertex v stands at v - 1.
+// Dijkstra's algorithm on the tables as they are; no path is no arc. Vertices count from 1; the distance of vertex v stands at v - 1.
 use crate::networks::Shape;
 use crate::numbers::entry;
 use crate::numbers::fill;
@@ -24,6 +24,15 @@ fn nearest(distances: &[u32], settled: &[u32], n: u32) -> u32 {
     best
 }
 
+// An arc of this length, from a vertex with this label to the one whose distance stands at a place.
+fn relax_arc(label: u32, length: u32, at: u32, distances: &mut [u32]) {
+    if length == Network::NO_PATH {
+        return;
+    }
+    let x = least(get(distances, at), sum(label, length));
+    put(distances, at, x);
+}
+
 // The arcs from a place of a piece to all places of it, if the place holds the vertex; row `place` of the lengths holds theirs.
 fn relax_row(
     sizes: &[u32],
@@ -40,8 +49,7 @@ fn relax_row(
     let k = place / Network::MAX_SIZE;
     for j in 0..get(sizes, k) {
         let at = less(entry(vertices, k, j), 1);
-        let x = sum(label, entry(lengths, place, j));
-        put(distances, at, least(get(distances, at), x));
+        relax_arc(label, entry(lengths, place, j), at, distances);
     }
 }
 

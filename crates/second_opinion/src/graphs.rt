@@ -1,5 +1,6 @@
 // Planar graphs of one-way tracks, and all shortest distances in them. Nodes 0 to 23 are the rim, clockwise: a ring, or the border of a grid of
-// seven by seven, which has 25 nodes more inside. A graph is a row for each node: the length of the arc to each node, or FAR.
+// seven by seven, which has 25 nodes more inside. A graph is a row for each node: the length of the arc to each node, or FAR. Where the rim is not
+// whole, FAR may be left between two nodes of it.
 use crate::numbers::fill;
 use crate::numbers::get;
 use crate::numbers::least;
@@ -21,11 +22,11 @@ const ARCS: u32 = NODES * NODES;
 
 pub(crate) const GRAPH_PLACES: usize = ARCS as usize;
 
-// The longest track: a way along the whole rim is no longer than the largest length.
-const MAX_TRACK: u32 = Network::MAX_LENGTH / RIM;
+// The longest track: a way over all nodes is no longer than the largest length.
+const MAX_TRACK: u32 = Network::MAX_LENGTH / NODES;
 
-// The length where there is no arc: more than any way along the rim.
-const FAR: u32 = Network::MAX_LENGTH + 1;
+// The length where there is no arc: more than any way.
+pub(crate) const FAR: u32 = Network::MAX_LENGTH + 1;
 
 // The nodes of a side of the grid, and its last row and column.
 const SIDE: u32 = 7;
@@ -60,12 +61,21 @@ fn lay_both(seed: &mut u64, graph: &mut [u32], u: u32, v: u32) {
     lay_perhaps(seed, graph, v, u);
 }
 
-// The rim: clockwise everywhere, so that every node of it reaches every other; back only in places.
-fn lay_rim(seed: &mut u64, graph: &mut [u32]) {
+// A track of the rim, clockwise.
+fn lay_around(seed: &mut u64, graph: &mut [u32], is_whole: bool, u: u32, v: u32) {
+    if is_whole {
+        lay(seed, graph, u, v);
+        return;
+    }
+    lay_perhaps(seed, graph, u, v);
+}
+
+// The rim: if it is whole, clockwise everywhere, so that every node of it reaches every other; back only in places.
+fn lay_rim(seed: &mut u64, graph: &mut [u32], is_whole: bool) {
     for u in 0..RIM {
         let v = (u + 1) % RIM;
         lay_perhaps(seed, graph, v, u);
-        lay(seed, graph, u, v);
+        lay_around(seed, graph, is_whole, u, v);
     }
 }
 
@@ -153,10 +163,10 @@ fn lay_inside(seed: &mut u64, graph: &mut [u32], is_grid: bool) {
     lay_chords(seed, graph);
 }
 
-// Fills in the distances of a random planar graph, a grid or a ring.
-pub(crate) fn fill_distances(seed: &mut u64, graph: &mut [u32], is_grid: bool) {
+// Fills in the distances of a random planar graph, a grid or a ring, with a rim that is whole or not.
+pub(crate) fn fill_distances(seed: &mut u64, graph: &mut [u32], is_grid: bool, is_whole: bool) {
     fill(graph, FAR);
     lay_inside(seed, graph, is_grid);
-    lay_rim(seed, graph);
+    lay_rim(seed, graph, is_whole);
     shorten_all(graph);
 }

@@ -1,13 +1,17 @@
 // A second opinion of the labelling. Thousands of sound networks are generated, and each is labelled from several sources: by the engine, which
 // halves the pieces into Monge blocks and keeps an interval heap for each, and by Dijkstra's algorithm, which scans all vertices and the tables
 // as they are. The two share no code, so that an error would have to be made twice to pass. Compared are all 256 labels and how many vertices are
-// reached. Every network must be accepted, and the intervals inserted must be within 5 times the sum over pieces of m log m, rounded up.
+// reached. Every network must be accepted. In about half of them tracks are closed: whole rows and columns, all but a stretch of each row, all
+// but a ring, all of a piece; and some are cut in two. In the others the intervals inserted must be within 5 times the sum over pieces of m log m,
+// rounded up.
 // Each network is made from its number alone, and one that differs is named by it. The file `stdout` names none.
 //   numbers     places, sums, random numbers
 //   graphs      planar graphs and the distances in them
 //   tables      tables of lengths
+//   closings    closed tracks
 //   networks    networks of such tables
 //   dijkstra    Dijkstra's algorithm
+mod closings;
 mod dijkstra;
 mod graphs;
 mod networks;
@@ -19,7 +23,7 @@ use crate::networks::Shape;
 use crate::networks::choose_shape;
 use crate::networks::choose_source;
 use crate::networks::make_pieces;
-use crate::numbers::LARGEST;
+use crate::numbers::UNUSED;
 use crate::numbers::add;
 use crate::numbers::get;
 use crate::numbers::less;
@@ -45,7 +49,8 @@ const FACTOR: u32 = 5;
 const FILLER: u32 = 7;
 
 // The places of a tally: in how many labellings each comparison comes out as it must, the vertices reached in all of them, the largest share
-// of a bound in thousandths, and how many networks differ.
+// of a bound in thousandths, and how many networks differ. Then how many labellings are of networks without closed tracks, how many networks have
+// closed tracks, how many are cut in two, and how many lengths are no path.
 const ACCEPTED: u32 = 0;
 
 const SAME_LABELS: u32 = 1;
@@ -60,8 +65,16 @@ const SHARE: u32 = 5;
 
 const DIFFERENT: u32 = 6;
 
+const OPEN: u32 = 7;
+
+const CLOSED: u32 = 8;
+
+const CUT: u32 = 9;
+
+const NO_PATHS: u32 = 10;
+
 // Then a place for each number of vertices, number of pieces and size of a piece, 1 where a network has it.
-const VERTEX_COUNTS: u32 = 7;
+const VERTEX_COUNTS: u32 = 11;
 
 const PIECE_COUNTS: u32 = VERTEX_COUNTS + Network::MAX_VERTICES;
 
@@ -125,25 +138,25 @@ fn count(tally: &mut [u32], at: u32, is_so: bool) {
     }
 }
 
+// Holds the intervals inserted in a network without closed tracks to the bound, and answers whether they are within it.
+fn count_inserted(tally: &mut [u32], inserted: u32, limit: u32) -> bool {
+    let within = inserted <= limit;
+    add(tally, OPEN, 1);
+    count(tally, WITHIN, within);
+    let highest = most(get(tally, SHARE), share(inserted, limit));
+    put(tally, SHARE, highest);
+    within
+}
+
 // Counts what came out as it must, and answers whether all did.
-fn count_labelling(
-    tally: &mut [u32],
-    given: LabelAnswer,
-    same_labels: bool,
-    reached: u32,
-    limit: u32,
-) -> bool {
+fn count_labelling(tally: &mut [u32], given: LabelAnswer, same_labels: bool, reached: u32) -> bool {
     let accepted = given.number == Cause::NONE;
     let same_reached = given.reached == reached;
-    let within = given.inserted <= limit;
     count(tally, ACCEPTED, accepted);
     count(tally, SAME_LABELS, same_labels);
     count(tally, SAME_REACHED, same_reached);
-    count(tally, WITHIN, within);
     add(tally, REACHED, given.reached);
-    let highest = most(get(tally, SHARE), share(given.inserted, limit));
-    put(tally, SHARE, highest);
-    accepted && same_labels && same_reached && within
+    accepted && same_labels && same_reached
 }
 
 // Labels a network by both, and answers whether all came out as it must.
@@ -168,7 +181,12 @@ fn compare_labelling(
         &mut labels,
     );
     let same_labels = are_same(&labels, &distances);
-    count_labelling(tally, given, same_labels, reached, bound(shape.p, sizes))
+    let right = count_labelling(tally, given, same_labels, reached);
+    if shape.is_closed {
+        return right;
+    }
+    let within = count_inserted(tally, given.inserted, bound(shape.p, sizes));
+    right && within
 }
 
 // ---- networks
@@ -212,17 +230,33 @@ fn count_network(tally: &mut [u32], number: u32, wrong: u32) {
     write_line(number, b" is the number of a network that differs.");
 }
 
-// Makes the network of a number and labels it. Places that it does not use hold the largest number, which would show if it were read.
+// Counts the places that hold no path.
+fn count_no_paths(tally: &mut [u32], lengths: &[u32]) {
+    let mut i = 0;
+    while i < lengths.len() {
+        count(tally, NO_PATHS, lengths[i] == Network::NO_PATH);
+        i += 1;
+    }
+}
+
+fn count_closed(tally: &mut [u32], shape: Shape, lengths: &[u32]) {
+    count(tally, CLOSED, shape.is_closed);
+    count(tally, CUT, shape.is_cut);
+    count_no_paths(tally, lengths);
+}
+
+// Makes the network of a number and labels it. Places that it does not use hold what would show if it were read.
 fn compare_network(number: u32, tally: &mut [u32]) {
-    let mut sizes = [LARGEST; Network::SIZE_PLACES];
-    let mut vertices = [LARGEST; Network::VERTEX_PLACES];
-    let mut lengths = [LARGEST; Network::LENGTH_PLACES];
+    let mut sizes = [UNUSED; Network::SIZE_PLACES];
+    let mut vertices = [UNUSED; Network::VERTEX_PLACES];
+    let mut lengths = [UNUSED; Network::LENGTH_PLACES];
     let mut seed = seed_of(number);
     let shape = choose_shape(&mut seed, number);
     make_pieces(&mut seed, shape, &mut sizes, &mut vertices, &mut lengths);
     mark(tally, VERTEX_COUNTS, shape.n);
     mark(tally, PIECE_COUNTS, shape.p);
     mark_sizes(tally, shape.p, &sizes);
+    count_closed(tally, shape, &lengths);
     let wrong = compare_sources(&mut seed, shape, &sizes, &vertices, &lengths, tally);
     count_network(tally, number, wrong);
 }
@@ -260,6 +294,9 @@ fn write_networks(tally: &[u32]) {
     );
     write_line(pieces, b" numbers of pieces, of 1 to 16, occur in them.");
     write_line(sizes, b" sizes of a piece, of 1 to 24, occur in them.");
+    write_line(get(tally, CLOSED), b" networks have closed tracks.");
+    write_line(get(tally, CUT), b" of these are cut in two.");
+    write_line(get(tally, NO_PATHS), b" lengths in them are no path.");
 }
 
 fn write_labellings(tally: &[u32]) {
@@ -277,8 +314,12 @@ fn write_labellings(tally: &[u32]) {
         b" labellings reached as many vertices as Dijkstra's algorithm.",
     );
     write_line(
+        get(tally, OPEN),
+        b" labellings are of networks without closed tracks.",
+    );
+    write_line(
         get(tally, WITHIN),
-        b" labellings inserted no more intervals than 5 times the sum of m log m.",
+        b" of these inserted no more intervals than 5 times the sum of m log m.",
     );
     write_line(
         get(tally, SHARE),

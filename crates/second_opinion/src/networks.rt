@@ -1,4 +1,7 @@
-// Networks of sound pieces of every kind and size. Places that a network does not use are left.
+// Networks of sound pieces of every kind and size, with closed tracks and without. Places that a network does not use are left.
+use crate::closings::close_halves;
+use crate::closings::close_tracks;
+use crate::closings::is_low;
 use crate::numbers::entry;
 use crate::numbers::get;
 use crate::numbers::least;
@@ -13,10 +16,12 @@ use crate::tables::PLANAR_KINDS;
 use crate::tables::fill_table;
 use bounds::Network;
 
-// How many vertices and pieces a network has.
+// How many vertices and pieces a network has, whether tracks are closed in it, and whether it is cut in two.
 pub(crate) struct Shape {
     pub(crate) n: u32,
     pub(crate) p: u32,
+    pub(crate) is_closed: bool,
+    pub(crate) is_cut: bool,
 }
 
 // ---- choices
@@ -39,7 +44,14 @@ fn choose_count(seed: &mut u64, number: u32) -> u32 {
 pub(crate) fn choose_shape(seed: &mut u64, number: u32) -> Shape {
     let n = choose_count(seed, number);
     let p = one_to(seed, Network::MAX_PIECES);
-    Shape { n: n, p: p }
+    let is_closed = one_in(seed, 2);
+    let is_fourth = one_in(seed, 4);
+    Shape {
+        n: n,
+        p: p,
+        is_closed: is_closed,
+        is_cut: is_closed && is_fourth,
+    }
 }
 
 // The sizes at the edges often, and never more vertices than there are.
@@ -90,29 +102,102 @@ fn choose_vertices(seed: &mut u64, n: u32, k: u32, m: u32, vertices: &mut [u32])
     }
 }
 
-// Fills the table of piece k.
-fn fill_lengths(seed: &mut u64, kind: u32, k: u32, m: u32, lengths: &mut [u32]) {
+// 1 for a vertex of the first half of all, else 0.
+fn low_count(n: u32, v: u32) -> u32 {
+    if is_low(n, v) { 1 } else { 0 }
+}
+
+// The place of m for a vertex, behind so many of the first half, or before so many others.
+fn place_of(n: u32, v: u32, m: u32, low: u32, others: u32) -> u32 {
+    if is_low(n, v) {
+        return low;
+    }
+    less(less(m, 1), others)
+}
+
+// The same with those of the first half of all vertices before the others, so that a line parts the two.
+fn choose_parted(seed: &mut u64, n: u32, k: u32, m: u32, vertices: &mut [u32]) {
+    let mut pool = [0u32; Network::LABEL_PLACES];
+    number_pool(n, &mut pool);
+    let mut low = 0;
+    for i in 0..m {
+        let v = draw(seed, n, &mut pool, i);
+        let others = less(i, low);
+        let at = place_of(n, v, m, low, others);
+        put_entry(vertices, k, at, v);
+        low = sum(low, low_count(n, v));
+    }
+}
+
+// The vertices of piece k.
+fn choose_places(seed: &mut u64, shape: Shape, k: u32, m: u32, vertices: &mut [u32]) {
+    if shape.is_cut {
+        choose_parted(seed, shape.n, k, m, vertices);
+        return;
+    }
+    choose_vertices(seed, shape.n, k, m, vertices);
+}
+
+fn cut_table(shape: Shape, k: u32, m: u32, vertices: &[u32], table: &mut [u32]) {
+    if shape.is_cut {
+        close_halves(shape.n, k, m, vertices, table);
+    }
+}
+
+// Closes tracks of piece k, if some are closed.
+fn close_table(seed: &mut u64, shape: Shape, k: u32, m: u32, vertices: &[u32], table: &mut [u32]) {
+    if !shape.is_closed {
+        return;
+    }
+    close_tracks(seed, m, table);
+    cut_table(shape, k, m, vertices, table);
+}
+
+// Fills the table of piece k, whose vertices are there.
+fn make_table(
+    seed: &mut u64,
+    shape: Shape,
+    kind: u32,
+    k: u32,
+    m: u32,
+    vertices: &[u32],
+    table: &mut [u32],
+) {
+    fill_table(seed, kind, !shape.is_closed, m, table);
+    close_table(seed, shape, k, m, vertices, table);
+}
+
+// Fills the lengths of piece k.
+fn fill_lengths(
+    seed: &mut u64,
+    shape: Shape,
+    kind: u32,
+    k: u32,
+    m: u32,
+    vertices: &[u32],
+    lengths: &mut [u32],
+) {
     let first = Network::TABLE_PLACES * (k as usize);
     let end = first + Network::TABLE_PLACES;
     if end <= lengths.len() {
-        fill_table(seed, kind, m, &mut lengths[first..end]);
+        make_table(seed, shape, kind, k, m, vertices, &mut lengths[first..end]);
     }
 }
 
 // Fills the places of the buffers that piece k uses.
 fn make_piece(
     seed: &mut u64,
-    n: u32,
+    shape: Shape,
     kind: u32,
     k: u32,
     sizes: &mut [u32],
     vertices: &mut [u32],
     lengths: &mut [u32],
 ) {
-    let m = choose_size(seed, n);
+    let m = choose_size(seed, shape.n);
     put(sizes, k, m);
-    choose_vertices(seed, n, k, m, vertices);
-    fill_lengths(seed, kind, k, m, lengths);
+    choose_places(seed, shape, k, m, vertices);
+    fill_lengths(seed, shape, kind, k, m, vertices, lengths);
 }
 
 // Fills the places of the buffers that a network uses. In one network of four all pieces are planar, as in a plan.
@@ -126,7 +211,7 @@ pub(crate) fn make_pieces(
     let is_planar = one_in(seed, 4);
     for k in 0..shape.p {
         let kind = choose_kind(seed, is_planar);
-        make_piece(seed, shape.n, kind, k, sizes, vertices, lengths);
+        make_piece(seed, shape, kind, k, sizes, vertices, lengths);
     }
 }
 

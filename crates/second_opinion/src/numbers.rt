@@ -2,8 +2,11 @@
 ghost use Prim.Native.Nat.{_≤_};
 use bounds::Network;
 
-// What stands in the places that a network does not use.
-pub(crate) const LARGEST: u32 = u32::MAX;
+// In place of a sum that does not fit.
+const LARGEST: u32 = u32::MAX;
+
+// What stands in the places that a network does not use: no length, no vertex, no size.
+pub(crate) const UNUSED: u32 = Network::NO_PATH - 1;
 
 // ---- places
 

@@ -1,5 +1,6 @@
 // Tables of lengths that every check accepts. Each generator fills a whole table, rows of 24; a piece of m vertices takes the first m rows and
 // columns of it.
+use crate::graphs::FAR;
 use crate::graphs::GRAPH_PLACES;
 use crate::graphs::RIM;
 use crate::graphs::arc;
@@ -16,9 +17,9 @@ use crate::numbers::up_to;
 use bounds::Network;
 
 // The places of a row and of a table, as numbers of a loop.
-const SIDE: u32 = Network::MAX_SIZE;
+pub(crate) const SIDE: u32 = Network::MAX_SIZE;
 
-const PLACES: u32 = SIDE * SIDE;
+pub(crate) const PLACES: u32 = SIDE * SIDE;
 
 // The weights of a graded table: of rows, of columns, and of the blocks above and below the diagonal.
 const COLUMN_WEIGHTS: u32 = SIDE;
@@ -64,18 +65,26 @@ fn choose_nodes(seed: &mut u64, m: u32, nodes: &mut [u32]) {
     }
 }
 
+// The length of a way: no path where there is none.
+fn length_of(distance: u32) -> u32 {
+    if distance == FAR {
+        return Network::NO_PATH;
+    }
+    distance
+}
+
 fn copy_distances(graph: &[u32], nodes: &[u32], table: &mut [u32]) {
     for at in 0..PLACES {
         let x = arc(graph, get(nodes, at / SIDE), get(nodes, at % SIDE));
-        put(table, at, x);
+        put(table, at, length_of(x));
     }
 }
 
 // The distances inside a planar piece, a grid or a ring.
-fn fill_planar(seed: &mut u64, m: u32, is_grid: bool, table: &mut [u32]) {
+fn fill_planar(seed: &mut u64, m: u32, is_grid: bool, is_whole: bool, table: &mut [u32]) {
     let mut graph = [0u32; GRAPH_PLACES];
     let mut nodes = [0u32; Network::ROW_PLACES];
-    fill_distances(seed, &mut graph, is_grid);
+    fill_distances(seed, &mut graph, is_grid, is_whole);
     choose_nodes(seed, m, &mut nodes);
     copy_distances(&graph, &nodes, table);
 }
@@ -140,7 +149,7 @@ fn weight(weights: &[u32], m: u32, i: u32, j: u32) -> u32 {
     sum(line, get(weights, sum(side, middle(m, i, j))))
 }
 
-fn fill_random(seed: &mut u64, top: u32, s: &mut [u32]) {
+pub(crate) fn fill_random(seed: &mut u64, top: u32, s: &mut [u32]) {
     let mut i = 0;
     while i < s.len() {
         s[i] = up_to(seed, top);
@@ -205,10 +214,10 @@ fn fill_constant(seed: &mut u64, table: &mut [u32]) {
     fill(table, x);
 }
 
-fn fill_kind(seed: &mut u64, kind: u32, m: u32, table: &mut [u32]) {
+fn fill_kind(seed: &mut u64, kind: u32, is_whole: bool, m: u32, table: &mut [u32]) {
     match kind {
-        0 => fill_planar(seed, m, true, table),
-        1 => fill_planar(seed, m, false, table),
+        0 => fill_planar(seed, m, true, is_whole, table),
+        1 => fill_planar(seed, m, false, is_whole, table),
         2 => fill_line(seed, table),
         3 => fill_constant(seed, table),
         4 => fill_graded(seed, m, 1, 1, false, table),
@@ -235,9 +244,9 @@ fn copy_table(whole: &[u32], m: u32, table: &mut [u32]) {
     }
 }
 
-// Fills the places of a table that a piece of m vertices uses.
-pub(crate) fn fill_table(seed: &mut u64, kind: u32, m: u32, table: &mut [u32]) {
+// Fills the places of a table that a piece of m vertices uses. Where the rim of a planar piece need not be whole, some lengths are no path.
+pub(crate) fn fill_table(seed: &mut u64, kind: u32, is_whole: bool, m: u32, table: &mut [u32]) {
     let mut whole = [0u32; Network::TABLE_PLACES];
-    fill_kind(seed, kind, m, &mut whole);
+    fill_kind(seed, kind, is_whole, m, &mut whole);
     copy_table(&whole, m, table);
 }

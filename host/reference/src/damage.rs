@@ -1,6 +1,6 @@
 //! Texts and networks, most of them turned away, each with the number of its cause where that is plain from documents 01 and 02.
 
-use crate::network::{Lent, Plan, LENGTHS, MAX_FIELD, MAX_LENGTH, ROOM};
+use crate::network::{Lent, Plan, LENGTHS, MAX_FIELD, MAX_LENGTH, NO_PATH, ROOM};
 use crate::plans::Rng;
 
 /// Depot example P1.
@@ -35,6 +35,30 @@ const CHAIN: [&str; 7] = [
     "     8     0",
 ];
 
+/// Examples P24 to P27, our own, up to the question line: the same without vertex 4, and no run leads from vertex 1 to vertex 2.
+const ONE_WAY: [&str; 7] = [
+    "     3     2",
+    "     2     1     2",
+    "     0     -",
+    "     6     0",
+    "     2     2     3",
+    "     0     7",
+    "     8     0",
+];
+
+/// A piece whose first block is that of document 02, request 7, [5 - 0; 0 - 0]: neighbouring corners pass, but the first and the last
+/// column fail.
+const NO_NEIGHBOURS_FAIL: [&str; 8] = [
+    "     5     1",
+    "     5     1     2     3     4     5",
+    "     0     1     0     -     5",
+    "     1     0     0     -     0",
+    "     0     0     0     0     0",
+    "     0     0     0     0     0",
+    "     0     0     0     0     0",
+    "     1",
+];
+
 /// The question of P13, and what the program `labels` writes for it.
 pub const CHAIN_QUESTION: &str = "     1     3\n";
 pub const CHAIN_LISTING: [&str; 3] = [
@@ -67,6 +91,11 @@ pub fn chain_and(tail: &str) -> Vec<u8> {
     [&text(&CHAIN), tail.as_bytes()].concat()
 }
 
+/// The text with no run from 1 to 2, with something after its pieces.
+pub fn one_way_and(tail: &str) -> Vec<u8> {
+    [&text(&ONE_WAY), tail.as_bytes()].concat()
+}
+
 /// The depot's text with something after it.
 fn depot_and(tail: &[u8]) -> Vec<u8> {
     [&text(&DEPOT), tail].concat()
@@ -84,7 +113,16 @@ const DAMAGES: &[Damage] = &[
     ("P12: two zeros", &[(2, "    00     3     7     5")], 3),
     ("a plus", &[(0, "    +5     1")], 3),
     ("a minus", &[(0, "    -5     1")], 3),
-    ("a dash for a length", &[(2, "     0     3     7     -")], 3),
+    ("a dash for n", &[(0, "     -     1")], 3),
+    ("a dash for p", &[(0, "     5     -")], 3),
+    ("a dash for m", &[(1, "     -     1     2     3     4")], 3),
+    ("a dash for a gate", &[(1, "     4     1     2     3     -")], 3),
+    ("a dash at the left end of a length", &[(2, "     0-         7     5")], 3),
+    ("a blank behind the dash of a length", &[(2, "     0    -      7     5")], 3),
+    ("two dashes for a length", &[(2, "     0    --     7     5")], 3),
+    ("a dash before the digit of a length", &[(2, "     0    -3     7     5")], 3),
+    ("a dash behind the digit of a length", &[(2, "     0    3-     7     5")], 3),
+    ("a dash behind a tab", &[(2, "     0\t    -     7     5")], 3),
     ("a letter", &[(3, "     3     0     4     x")], 3),
     ("a point", &[(3, "     3     0   4.0     6")], 3),
     ("an empty field", &[(1, "     4     1     2     3      ")], 3),
@@ -105,6 +143,8 @@ const DAMAGES: &[Damage] = &[
     ("a carriage return after the target", &[(6, "     1     2\r")], 3),
     ("a blank after the target", &[(6, "     1     2 ")], 3),
     ("a blank after the target's digit", &[(6, "     1    2 ")], 3),
+    ("a dash for a source", &[(6, "     -")], 3),
+    ("a dash for a source before a target", &[(6, "     -     1")], 3),
     ("a dash for a target", &[(6, "     1     -")], 3),
     ("an empty target", &[(6, "     1      ")], 3),
     ("a leading zero of a target", &[(6, "     1    02")], 3),
@@ -139,6 +179,9 @@ const DAMAGES: &[Damage] = &[
     ("a gate twice and a diagonal not 0", &[(1, "     4     2     2     3     4"), (2, "     1     3     7     5")], 5),
     ("a diagonal not 0 and a later field bad", &[(2, "100000     3     7     x")], 3),
     ("a diagonal not 0 and the next row bad", &[(2, "     1     3     7     5"), (3, "x")], 6),
+    ("a dash on the diagonal and a later field bad", &[(2, "     -     3     7     x")], 3),
+    ("a dash on the diagonal and the next row bad", &[(2, "     -     3     7     5"), (3, "x")], 6),
+    ("a dash on the diagonal and a block fails", &[(2, "     0     3     7     -"), (5, "     5     6     2     -")], 6),
     ("a block fails and a later diagonal is not 0", &[(2, "     0     3     7    10"), (5, "     5     6     2     9")], 6),
     ("a block fails and the question line is bad", &[(2, "     0     3     7    10"), (6, "x")], 7),
     ("a block fails and the source is 0", &[(2, "     0     3     7    10"), (6, "     0")], 7),
@@ -170,6 +213,7 @@ pub fn texts() -> Vec<(String, Vec<u8>, u32)> {
     add("a blank in front", [b" ", &depot[..]].concat(), 3);
     add("a byte 0 for a blank", [b"\0", &depot[1..]].concat(), 3);
     add("a byte above 127", [b"\xff", &depot[1..]].concat(), 3);
+    add("a block fails at columns that are no neighbours", text(&NO_NEIGHBOURS_FAIL), 7);
     let asked =
         [("     1", 3), ("     1     3", 3), ("     6", 8), ("     6     6", 8), ("     1     6", 12)];
     for (question, number) in asked {
@@ -184,12 +228,12 @@ pub fn texts() -> Vec<(String, Vec<u8>, u32)> {
     all
 }
 
-/// The depot's text with a length of six digits at each place of its table: what and where, the text, the number. In a block of four
-/// two places are on the side of the inequality that must be the smaller: there a long length gives 7.
+/// The depot's text with a length of six digits, or no path, at each place of its table: what and where, the text, the number. In a block
+/// of four two places are on the side of the inequality that must be the smaller: there such a length gives 7.
 pub fn long_lengths() -> Vec<(String, Vec<u8>, u32)> {
     let numbers = [[6, 0, 0, 7], [0, 6, 7, 0], [0, 7, 6, 0], [7, 0, 0, 6]];
     let mut all = Vec::new();
-    for length in ["100000", "999999"] {
+    for length in ["100000", "999999", "     -"] {
         for (i, row) in numbers.iter().enumerate() {
             for (j, &number) in row.iter().enumerate() {
                 let mut line = DEPOT[2 + i].to_string();
@@ -220,26 +264,27 @@ pub fn scratched(text: &[u8], rng: &mut Rng) -> Vec<u8> {
 /// A number that is wrong in many places.
 fn odd(old: u32, rng: &mut Rng) -> u32 {
     let near = [old.wrapping_add(1), old.wrapping_sub(1)];
-    let fixed = [0, 1, 2, 17, 25, 257, MAX_LENGTH, MAX_LENGTH + 1, u32::MAX];
+    let fixed = [0, 1, 2, 17, 25, 257, MAX_LENGTH, MAX_LENGTH + 1, NO_PATH - 1, NO_PATH, NO_PATH];
     rng.pick(&[&near[..], &fixed].concat())
 }
 
-/// A plan with one number changed, small enough to be a field. Perhaps it is still accepted.
+/// A plan with one number changed, small enough to be a field, or a length that is now no path. Perhaps it is still accepted.
 pub fn spoiled(plan: &Plan, rng: &mut Rng) -> Plan {
     let mut plan = plan.clone();
     let d = rng.below(plan.pieces.len() as u32) as usize;
     let piece = &mut plan.pieces[d];
     let m = piece.vertices.len() as u32;
     let (i, j) = (rng.below(m) as usize, rng.below(m) as usize);
-    let place = match rng.below(11) {
-        0 => &mut plan.n,
-        1 => &mut plan.source,
-        2 => plan.target.get_or_insert(plan.source),
-        3..=5 => &mut piece.vertices[i],
-        6 => &mut piece.lengths[i][i],
-        _ => &mut piece.lengths[i][j],
+    let (place, largest) = match rng.below(11) {
+        0 => (&mut plan.n, MAX_FIELD),
+        1 => (&mut plan.source, MAX_FIELD),
+        2 => (plan.target.get_or_insert(plan.source), MAX_FIELD),
+        3..=5 => (&mut piece.vertices[i], MAX_FIELD),
+        6 => (&mut piece.lengths[i][i], NO_PATH),
+        _ => (&mut piece.lengths[i][j], NO_PATH),
     };
-    *place = odd(*place, rng).min(MAX_FIELD);
+    let x = odd(*place, rng);
+    *place = if x > MAX_FIELD { largest } else { x };
     plan
 }
 

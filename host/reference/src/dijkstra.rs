@@ -32,13 +32,14 @@ fn least_open(labels: &[u32], settled: &[bool]) -> Option<usize> {
     found
 }
 
-/// The arcs out of place `i` of piece `d`, whose vertex has this label.
+/// The arcs out of place `i` of piece `d`, whose vertex has this label. A sum with no path is no path, the largest number there is: it
+/// lowers no label.
 fn relax(lent: &Lent, d: usize, i: usize, label: u32, labels: &mut [u32]) {
     let m = lent.sizes[d] as usize;
     let vertices = &lent.vertices[ROOM * d..][..m];
     let row = &lent.lengths[ROOM * (ROOM * d + i)..][..m];
     for (&v, &length) in vertices.iter().zip(row) {
         let other = &mut labels[v as usize - 1];
-        *other = (*other).min(label + length);
+        *other = (*other).min(label.saturating_add(length));
     }
 }

@@ -2,12 +2,12 @@
 
 use crate::index;
 use crate::model::{label_plan, Model};
-use crate::network::{is_monge, judge_places, judge_question, Lent, Plan};
+use crate::network::{is_length, is_monge, judge_places, judge_question, Lent, Plan};
 use crate::network::{
     ANSWERS, ARC_SIZE, CALLS, COLUMNS, INDEX, INDEX_ROW, INTERVALS, INTERVAL_SIZE, LABELS, LINE, LISTING,
     RECTANGLE, ROOM, ROUTE_PLACES,
 };
-use crate::network::{MAX_CALLS, MAX_LENGTH, MAX_SIZE, NO_TARGET};
+use crate::network::{MAX_CALLS, MAX_SIZE, NO_TARGET};
 use crate::number_of;
 use crate::text;
 
@@ -120,7 +120,7 @@ fn rows_of(rows: u32, cols: u32, lengths: &[u32]) -> Vec<Vec<u32>> {
 fn judge_rectangle(rows: u32, cols: u32, lengths: &[u32]) -> Result<Vec<Vec<u32>>, u32> {
     judge_sides(rows, cols)?;
     let rectangle = rows_of(rows, cols, lengths);
-    if rectangle.iter().flatten().any(|&l| l > MAX_LENGTH) {
+    if !rectangle.iter().flatten().all(|&l| is_length(l)) {
         return Err(6);
     }
     if !is_monge(&rectangle) {

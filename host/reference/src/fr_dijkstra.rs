@@ -6,21 +6,28 @@
 //! - one function scans columns: it finds the best of an interval when that is written, and nothing else looks for a least length;
 //! - an activation walks outward from the place of the new row and ends in a binary search on each side; the best sum of the new
 //!   interval is the block's new sum, if it is lower;
+//! - as long as some columns of a block are reached by no activated row, an activation also looks for those that the new row has a path
+//!   to. They lie where the walk begins, and closed columns between them part the new row's intervals;
 //! - an extraction takes the least of the bests and cuts that interval at its best column; the block's new sum is the least of the bests
 //!   that are left;
 //! - a tournament tree of keys, made of sum and block, gives the block;
-//! - the labels of the rows are shared by all blocks of a piece.
+//! - the labels of the rows are shared by all blocks of a piece;
+//! - the check compares neighbouring rows at neighbouring columns. In a piece with no path, rows of a block that have no path at all and
+//!   columns at which neither row has one are left out.
 //!
-//! The proved one has this design but for four things. It scans no columns: beside each row of the matrix stands an index of its columns,
+//! The proved one has this design but for six things. It scans no columns: beside each row of the matrix stands an index of its columns,
 //! built before the labelling, and the best of an interval is asked of it (document 02, request 5). In the activation it tests the two
 //! columns beside the new row's place first, and then finds both ends of the columns won by halving, over the intervals and over the
-//! columns of one. It keeps how many intervals there are, and whether a row is activated, among the words of the heap. And it stores the
-//! arc that each vertex was settled by.
+//! columns of one. It keeps how many intervals there are, how many columns are reached, and a mark for each of these among the words of
+//! the heap; here the unreached ones are bits. It looks at the lengths of a row wherever a column is left to reach; here it is known of
+//! each piece whether it has no path. So the check goes, too: the proved one tries plain neighbours in each block, and leaves out rows and
+//! columns where that fails. And it stores the arc that each vertex was settled by.
 
 use crate::model::UNREACHED;
 use crate::network::{
-    places, Lent, LABELS, MAX_LENGTH, MAX_PIECES, MAX_VERTICES, NO_PLACE, ROOM, SIZES, VERTICES,
+    places, Lent, LABELS, MAX_LENGTH, MAX_PIECES, MAX_VERTICES, NO_PATH, NO_PLACE, ROOM, SIZES, VERTICES,
 };
+use std::ops::Range;
 
 /// A block: its first row in the matrix, its first column there, and where its intervals begin among all.
 #[derive(Clone, Copy)]
@@ -38,29 +45,59 @@ const MAX_BLOCKS: usize = SIZES * 46;
 /// No two intervals of a block share a column.
 const MAX_INTERVALS: usize = SIZES * 112;
 
+// ---- sets of columns
+
+/// A set of columns, a bit for each.
+type Columns = u32;
+
+/// The columns from `first` to `last`.
+fn between(first: u32, last: u32) -> Columns {
+    (2 << last) - (1 << first)
+}
+
+/// The runs of neighbouring columns, each as its first and its last.
+fn runs(mut columns: Columns) -> impl Iterator<Item = (u32, u32)> + Clone {
+    std::iter::from_fn(move || {
+        if columns == 0 {
+            return None;
+        }
+        let first = columns.trailing_zeros();
+        let last = first + (columns >> first).trailing_ones() - 1;
+        columns &= !between(first, last);
+        Some((first, last))
+    })
+}
+
 // ---- preparation
 
 /// The lengths with the columns of each piece reversed.
 type Matrix = [[u32; ROOM]; VERTICES];
 
-fn fill_matrix(matrix: &mut Matrix, lent: &Lent) {
+/// Fills the matrix, and in which pieces some length is no path.
+fn fill_matrix(matrix: &mut Matrix, has_no_path: &mut [bool; SIZES], lent: &Lent) {
     for d in 0..lent.p as usize {
         let m = lent.sizes[d] as usize;
         let rows = lent.lengths[ROOM * ROOM * d..].chunks(ROOM).take(m);
+        let mut bits = 0;
         for (stored, row) in matrix[ROOM * d..].iter_mut().zip(rows) {
             for (place, &length) in stored[..m].iter_mut().rev().zip(row) {
                 *place = length;
+                bits |= length;
             }
         }
+        // no path has all bits, a number only low ones
+        has_no_path[d] = bits == NO_PATH;
     }
 }
 
-/// The blocks of all pieces in their order, and the number of the first one of each piece.
+/// The blocks of all pieces in their order, the number of the first one of each piece, and the columns of each block that no activated
+/// row has a path to: all of them.
 struct Blocks {
     all: [Block; MAX_BLOCKS],
     count: usize,
     columns: u16,
     first: [usize; SIZES],
+    unreached: [Columns; MAX_BLOCKS],
 }
 
 impl Blocks {
@@ -86,6 +123,7 @@ impl Blocks {
 
     fn push(&mut self, row: u16, rows: u16, column: u16, columns: u16) {
         self.all[self.count] = Block { row, rows, column, columns, intervals: self.columns };
+        self.unreached[self.count] = between(0, u32::from(columns) - 1);
         self.count += 1;
         self.columns += columns;
     }
@@ -120,37 +158,68 @@ fn check_piece(lent: &Lent, d: usize) -> u32 {
         seen[v as usize] = true;
     }
     let table = &lent.lengths[ROOM * ROOM * d..][..ROOM * ROOM];
+    let mut has_no_path = false;
     for i in 0..m {
         let row = &table[ROOM * i..][..m];
-        if row.iter().any(|&l| l > MAX_LENGTH) || row[i] != 0 {
+        // without a way out of the loops
+        if row.iter().fold(false, |some, &l| some | (l > MAX_LENGTH)) {
+            // no path plus 1 is 0
+            if !row.iter().fold(true, |all, l| all & (l.wrapping_add(1) <= MAX_LENGTH + 1)) {
+                return 6;
+            }
+            has_no_path = true;
+        }
+        if row[i] != 0 {
             return 6;
         }
     }
-    if check_blocks(table, 0, m) {
+    if check_blocks(table, has_no_path, 0, m) {
         0
     } else {
         7
     }
 }
 
-fn check_blocks(table: &[u32], start: usize, end: usize) -> bool {
+fn check_blocks(table: &[u32], has_no_path: bool, start: usize, end: usize) -> bool {
     if end - start < 2 {
         return true;
     }
     let middle = start + (end - start) / 2;
-    is_monge(table, start, middle, middle, end)
-        && is_monge(table, middle, end, start, middle)
-        && check_blocks(table, start, middle)
-        && check_blocks(table, middle, end)
+    is_monge(table, has_no_path, start..middle, middle..end)
+        && is_monge(table, has_no_path, middle..end, start..middle)
+        && check_blocks(table, has_no_path, start, middle)
+        && check_blocks(table, has_no_path, middle, end)
 }
 
-/// Rows `top..bottom` against columns `left..right` in clockwise order: the inequality turned round.
-fn is_monge(table: &[u32], top: usize, bottom: usize, left: usize, right: usize) -> bool {
-    (top + 1..bottom).all(|i| {
-        let above = &table[ROOM * (i - 1)..][left..right];
-        let row = &table[ROOM * i..][left..right];
-        let corners = above.windows(2).zip(row.windows(2));
-        corners.fold(true, |all, (a, b)| all & (a[1] + b[0] <= a[0] + b[1]))
+/// A block of a table: neighbouring rows, of those that have a path.
+fn is_monge(table: &[u32], has_no_path: bool, rows: Range<usize>, columns: Range<usize>) -> bool {
+    let lengths = |i: usize| &table[ROOM * i..][columns.clone()];
+    if has_no_path {
+        let mut open = rows.map(lengths).filter(|row| row.iter().fold(NO_PATH, |all, l| all & l) != NO_PATH);
+        let Some(mut above) = open.next() else {
+            return true;
+        };
+        return open.all(|row| open_rows_agree(std::mem::replace(&mut above, row), row));
+    }
+    (rows.start + 1..rows.end).all(|i| rows_agree(lengths(i - 1), lengths(i)))
+}
+
+/// Two rows of numbers with their columns in clockwise order: the inequality turned round, at neighbouring columns.
+fn rows_agree(above: &[u32], row: &[u32]) -> bool {
+    let corners = above.windows(2).zip(row.windows(2));
+    corners.fold(true, |all, (a, b)| all & (a[1] + b[0] <= a[0] + b[1]))
+}
+
+/// The same where some are no path, at neighbouring columns of those at which one of the rows has a path. A sum with no path is no path,
+/// the largest number there is: so the first of these columns passes, and those that are left out.
+fn open_rows_agree(above: &[u32], row: &[u32]) -> bool {
+    let (mut a0, mut b0) = (NO_PATH, NO_PATH);
+    above.iter().zip(row).fold(true, |all, (&a, &b)| {
+        let agree = a.saturating_add(b0) <= a0.saturating_add(b);
+        if a & b != NO_PATH {
+            (a0, b0) = (a, b);
+        }
+        all & agree
     })
 }
 
@@ -174,13 +243,22 @@ struct Window<'a> {
 }
 
 impl Window<'_> {
-    fn sum(&self, row: u32, column: u32) -> u32 {
-        self.labels[row as usize] + self.lengths[row as usize][self.column + column as usize]
+    /// In 64 bits, so that with no path it is above every sum of numbers.
+    fn sum(&self, row: u32, column: u32) -> u64 {
+        let length = self.lengths[row as usize][self.column + column as usize];
+        u64::from(self.labels[row as usize]) + u64::from(length)
     }
 
     /// Whether the new row is strictly below the parent there.
+    #[inline(always)] // wherever it is asked
     fn wins(&self, new: u32, parent: u32, column: u32) -> bool {
         self.sum(new, column) < self.sum(parent, column)
+    }
+
+    /// The columns at which a row has a path, of so many.
+    fn paths(&self, row: u32, columns: usize) -> Columns {
+        let lengths = &self.lengths[row as usize][self.column..][..columns];
+        (0..).zip(lengths).fold(0, |paths, (k, &length)| paths | Columns::from(length != NO_PATH) << k)
     }
 
     /// The lowest column of least length among columns `first..=last` of a row, and that length.
@@ -204,7 +282,8 @@ impl Window<'_> {
     }
 }
 
-/// The columns that a new row wins, and the intervals `low..high` that they meet.
+/// The columns that a new row wins, all from `first` to `last` at which it has a path, and the intervals `low..high` that they meet. It
+/// wins none if the last comes before the first.
 struct Won {
     low: usize,
     high: usize,
@@ -212,9 +291,15 @@ struct Won {
     last: u32,
 }
 
-fn search(kept: &[Interval], window: &Window, new: u32) -> Won {
+/// The columns that the new row is the first to reach lie between the intervals of lower parents and those of higher ones.
+#[inline(always)] // into both callers
+fn search(kept: &[Interval], window: &Window, new: u32, reached_first: Columns) -> Won {
     let middle = kept.iter().position(|v| v.parent > new).unwrap_or(kept.len());
     let mut won = Won { low: middle, high: middle, first: ROOM as u32, last: 0 };
+    if reached_first != 0 {
+        won.first = reached_first.trailing_zeros();
+        won.last = reached_first.ilog2();
+    }
     while won.low > 0 {
         let Interval { parent, first, last, .. } = kept[won.low - 1];
         if !window.wins(new, parent, last) {
@@ -255,11 +340,12 @@ fn boundary(mut a: u32, mut b: u32, test: impl Fn(u32) -> bool) -> u32 {
     a
 }
 
-/// The heap of a block: room for as many intervals as it has columns, how many it keeps, and whether a row is activated.
+/// The heap of a block: room for as many intervals as it has columns, how many it keeps, and the columns that no activated row has a path
+/// to.
 struct Heap<'a> {
     intervals: &'a mut [Interval],
     count: &'a mut usize,
-    activated: &'a mut bool,
+    unreached: &'a mut Columns,
 }
 
 impl Heap<'_> {
@@ -267,34 +353,70 @@ impl Heap<'_> {
         &self.intervals[..*self.count]
     }
 
-    /// How many intervals an activation inserts, and the best sum of the new row's, if it wins a column.
-    fn activate(&mut self, window: &Window, new: u32) -> Option<(u32, u32)> {
-        if !*self.activated {
-            let all = window.interval(new, 0, self.intervals.len() as u32 - 1);
-            self.intervals[0] = all;
-            *self.count = 1;
-            *self.activated = true;
-            return Some((1, all.best_sum));
+    /// How many intervals an activation inserts, and the least sum of the columns that the new row wins, if it wins one. The row may have
+    /// no path to some column if its piece has no path somewhere.
+    fn activate(&mut self, window: &Window, new: u32, has_no_path: bool) -> Option<(u32, u32)> {
+        if *self.unreached != 0 {
+            return self.activate_reaching(window, new, has_no_path);
         }
-        let won = search(self.kept(), window, new);
-        if won.low == won.high {
+        let won = search(self.kept(), window, new, 0);
+        if won.last < won.first {
             return None;
         }
-        let left = self.intervals[won.low];
-        let right = self.intervals[won.high - 1];
-        let keep_left = usize::from(left.first < won.first);
-        let keep_right = usize::from(won.last < right.last);
-        let inserted = keep_left + 1 + keep_right;
+        // no column is closed, so that between two columns that it wins it has a path everywhere
+        Some(self.put_won(window, new, &won, std::iter::once((won.first, won.last))))
+    }
+
+    /// The same while some columns are not reached.
+    fn activate_reaching(&mut self, window: &Window, new: u32, has_no_path: bool) -> Option<(u32, u32)> {
+        let columns = self.intervals.len();
+        let all = between(0, columns as u32 - 1);
+        let paths = if has_no_path { window.paths(new, columns) } else { all };
+        let reached_first = paths & *self.unreached;
+        *self.unreached &= !paths;
+        if reached_first == all {
+            let own = window.interval(new, 0, columns as u32 - 1);
+            self.intervals[0] = own;
+            *self.count = 1;
+            return Some((1, own.best_sum));
+        }
+        let won = search(self.kept(), window, new, reached_first);
+        if won.last < won.first {
+            return None;
+        }
+        Some(self.put_won(window, new, &won, runs(paths & between(won.first, won.last))))
+    }
+
+    /// The new row gets these runs of columns; of the first and the last interval that they meet the rest stays.
+    #[inline]
+    fn put_won(
+        &mut self,
+        window: &Window,
+        new: u32,
+        won: &Won,
+        own: impl Iterator<Item = (u32, u32)> + Clone,
+    ) -> (u32, u32) {
+        let met = &self.kept()[won.low..won.high];
+        let left = met.first().copied().filter(|v| v.first < won.first);
+        let right = met.last().copied().filter(|v| won.last < v.last);
+        let inserted = usize::from(left.is_some()) + own.clone().count() + usize::from(right.is_some());
         self.make_room(won.low, won.high, inserted);
-        if keep_left == 1 {
-            self.intervals[won.low] = window.interval(left.parent, left.first, won.first - 1);
+        let mut place = won.low;
+        if let Some(v) = left {
+            self.intervals[place] = window.interval(v.parent, v.first, won.first - 1);
+            place += 1;
         }
-        let own = window.interval(new, won.first, won.last);
-        self.intervals[won.low + keep_left] = own;
-        if keep_right == 1 {
-            self.intervals[won.low + inserted - 1] = window.interval(right.parent, won.last + 1, right.last);
+        let mut least = NO_PATH;
+        for (first, last) in own {
+            let run = window.interval(new, first, last);
+            self.intervals[place] = run;
+            least = least.min(run.best_sum);
+            place += 1;
         }
-        Some((inserted as u32, own.best_sum))
+        if let Some(v) = right {
+            self.intervals[place] = window.interval(v.parent, won.last + 1, v.last);
+        }
+        (inserted as u32, least)
     }
 
     /// The place of the interval with the lowest column of least sum.
@@ -376,7 +498,7 @@ struct State {
     labels: [u32; VERTICES],
     intervals: [Interval; MAX_INTERVALS],
     counts: [usize; MAX_BLOCKS],
-    activated: [bool; MAX_BLOCKS],
+    has_no_path: [bool; SIZES],
     tree: [u64; 2 * LEAVES],
 }
 
@@ -389,16 +511,17 @@ impl State {
             count: 0,
             columns: 0,
             first: [0; SIZES],
+            unreached: [0; MAX_BLOCKS],
         },
         labels: [0; VERTICES],
         intervals: [Interval { parent: 0, first: 0, last: 0, best_column: 0, best_sum: 0 }; MAX_INTERVALS],
         counts: [0; MAX_BLOCKS],
-        activated: [false; MAX_BLOCKS],
+        has_no_path: [false; SIZES],
         tree: [0; 2 * LEAVES],
     };
 
     fn prepare(&mut self, lent: &Lent) {
-        fill_matrix(&mut self.matrix, lent);
+        fill_matrix(&mut self.matrix, &mut self.has_no_path, lent);
         self.blocks.fill(lent);
         self.tree.fill(IDLE);
     }
@@ -420,7 +543,7 @@ impl State {
                 start += half;
                 number += 2 * half;
             }
-            inserted += self.activate_row(b, (i - start) as u32);
+            inserted += self.activate_row(b, (i - start) as u32, self.has_no_path[piece]);
         }
         inserted
     }
@@ -432,7 +555,7 @@ impl State {
         let heap = Heap {
             intervals: &mut self.intervals[usize::from(intervals)..usize::from(intervals + columns)],
             count: &mut self.counts[b],
-            activated: &mut self.activated[b],
+            unreached: &mut self.blocks.unreached[b],
         };
         let window = Window {
             lengths: &self.matrix[rows.clone()],
@@ -442,9 +565,9 @@ impl State {
         (heap, window)
     }
 
-    fn activate_row(&mut self, b: usize, row: u32) -> u32 {
+    fn activate_row(&mut self, b: usize, row: u32, has_no_path: bool) -> u32 {
         let (mut heap, window) = self.block(b);
-        let Some((inserted, sum)) = heap.activate(&window, row) else {
+        let Some((inserted, sum)) = heap.activate(&window, row, has_no_path) else {
             return 0;
         };
         lower(&mut self.tree, b, key(sum, b));

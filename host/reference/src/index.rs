@@ -1,5 +1,6 @@
 //! The index of a row, by document 02, request 5: for the stretch of all columns and for each half the lowest column of least length. Places are
-//! those of document 01's splits: a stretch, then all of its first half, then all of its second. A single column has no place.
+//! those of document 01's splits: a stretch, then all of its first half, then all of its second. A single column has no place. No path is above
+//! every number, so that a stretch of nothing else has its lowest column.
 
 use std::ops::Range;
 

@@ -1,7 +1,7 @@
-//! The rules of document 01 with requests 1 to 5 of document 02, written plainly in Rust from these documents alone. The tests compare the proved library with them, and
+//! The rules of document 01 with requests 1 to 7 of document 02, written plainly in Rust from these documents alone. The tests compare the proved library with them, and
 //! the benchmark measures it beside the two labellings here.
 //!
-//! - `network`: bounds and sizes, a plan, its blocks, the causes 4 to 8 and 12, lent buffers
+//! - `network`: bounds and sizes, no path, a plan, its blocks, the causes 4 to 8 and 12, lent buffers
 //! - `text`: the layout of a text, read and written
 //! - `model`: the plain book of a block, the labelling over one for each block, and its routes
 //! - `index`: the index of a row, built by looking at each column, and asked whatever it holds
@@ -10,10 +10,11 @@
 //! - `dijkstra`: the labels by the plainest algorithm
 //! - `fr_dijkstra`: the labelling by interval heaps, unproved
 //! - `plans`, `damage`: seeded plans, rectangles and texts to compare on
-//! - `vectors`: the stored questions to an index
+//! - `vectors`: the stored sessions and questions to an index
 //!
 //! Words: a vertex is a gate, a piece a district, an arc a leg, to activate is to tell, to extract is to take, a parent is an owner,
-//! inserted is brought in, removed is dropped, the floor is the last sum handed out.
+//! inserted is brought in, removed is dropped, the floor is the last sum handed out, no path is `-`. A row, a column or a place without a
+//! path is closed.
 
 pub mod damage;
 pub mod dijkstra;

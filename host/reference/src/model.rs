@@ -1,6 +1,8 @@
 //! The plain book of a block, and the labelling over a fresh one for each block.
 
-use crate::network::{blocks, rectangle, Plan, ARC_SIZE, INTERVAL_SIZE, LABELS, MAX_LENGTH, MAX_VERTICES};
+use crate::network::{
+    blocks, plus, rectangle, Plan, ARC_SIZE, INTERVAL_SIZE, LABELS, MAX_LENGTH, MAX_VERTICES, NO_PATH,
+};
 
 /// The largest label of an activation: a shortest walk has fewer arcs than there are vertices.
 pub const MAX_LABEL: u32 = (MAX_VERTICES - 1) * MAX_LENGTH;
@@ -33,14 +35,15 @@ impl Model {
         self.lengths[0].len()
     }
 
-    /// The earliest activated row that reaches the least sum of a column not extracted, with that sum.
+    /// The earliest activated row that reaches the least sum of a column not extracted, with that sum; none if that is no path.
     fn parent(&self, column: usize) -> Option<(usize, u32)> {
         if self.extracted.contains(&column) {
             return None;
         }
         let sums = self.activated.iter();
-        let sums = sums.map(|&(row, label)| (row, label + self.lengths[row][column]));
-        sums.min_by_key(|&(_, sum)| sum) // the first of equals
+        let sums = sums.map(|&(row, label)| (row, plus(label, self.lengths[row][column])));
+        let least = sums.min_by_key(|&(_, sum)| sum); // the first of equals
+        least.filter(|&(_, sum)| sum != NO_PATH)
     }
 
     /// The lowest of these rising columns that has the least sum, with that sum.
@@ -162,7 +165,7 @@ struct Numbered {
 impl Numbered {
     /// The arc into a column that is not extracted: that of the column's parent.
     fn arc_into(&self, column: usize) -> Arc {
-        let (row, _) = self.model.parent(column).expect("a row is activated");
+        let (row, _) = self.model.parent(column).expect("it has a parent");
         [self.rows[row], self.columns[column], self.piece, self.model.lengths[row][column]]
     }
 }

@@ -11,8 +11,10 @@ pub const MAX_VERTICES: u32 = 256;
 pub const MAX_PIECES: u32 = 16;
 /// The most vertices of a piece, rows of a session and columns of a session.
 pub const MAX_SIZE: u32 = 24;
-/// The largest length.
+/// The largest length that is a number.
 pub const MAX_LENGTH: u32 = 999_999;
+/// In place of a length, where no run exists inside the piece. It is above every number.
+pub const NO_PATH: u32 = u32::MAX;
 /// The most calls of a session.
 pub const MAX_CALLS: u32 = 64;
 /// The most bytes of a text.
@@ -59,6 +61,15 @@ pub const NO_TARGET: u32 = u32::MAX;
 /// Bytes of the longest listing, that of a route: a line of four fields, and one more for each arc.
 pub const LISTING: usize = (1 + MAX_ARCS) * (LINE + 1);
 
+/// The sum of two lengths, or of a label and a length: no path plus anything is no path.
+pub fn plus(a: u32, b: u32) -> u32 {
+    if a == NO_PATH || b == NO_PATH {
+        NO_PATH
+    } else {
+        a + b
+    }
+}
+
 /// A piece: its vertices in clockwise order, and the length from each to each.
 #[derive(Clone, Debug, PartialEq, Eq)]
 pub struct Piece {
@@ -73,6 +84,13 @@ pub struct Plan {
     pub pieces: Vec<Piece>,
     pub source: u32,
     pub target: Option<u32>,
+}
+
+impl Plan {
+    /// Whether some length is no path.
+    pub fn has_no_path(&self) -> bool {
+        self.pieces.iter().flat_map(|q| q.lengths.iter().flatten()).any(|&l| l == NO_PATH)
+    }
 }
 
 /// A block by places of its piece: rows clockwise, columns anticlockwise.
@@ -106,10 +124,20 @@ pub fn rectangle(piece: &Piece, block: &Block) -> Vec<Vec<u32>> {
     block.rows.iter().map(row).collect()
 }
 
-/// Whether neighbouring rows and columns obey the inequality.
+/// The inequality of rows i and j, i before j, at columns k and l, k before l.
+pub fn obey(e: &[Vec<u32>], [i, j]: [usize; 2], [k, l]: [usize; 2]) -> bool {
+    plus(e[i][k], e[j][l]) <= plus(e[i][l], e[j][k])
+}
+
+/// Whether every two rows and every two columns, neighbours or not, obey the inequality.
 pub fn is_monge(e: &[Vec<u32>]) -> bool {
-    e.windows(2)
-        .all(|pair| (1..pair[0].len()).all(|k| pair[0][k - 1] + pair[1][k] <= pair[0][k] + pair[1][k - 1]))
+    let pairs = |count: usize| (0..count).flat_map(|b| (0..b).map(move |a| [a, b]));
+    pairs(e.len()).all(|rows| pairs(e[0].len()).all(|columns| obey(e, rows, columns)))
+}
+
+/// How many columns of a rectangle with at least one row are closed: no row has a path there.
+pub fn closed_columns(e: &[Vec<u32>]) -> usize {
+    (0..e[0].len()).filter(|&k| e.iter().all(|row| row[k] == NO_PATH)).count()
 }
 
 // ---- the causes 4 to 8 and 12
@@ -139,9 +167,14 @@ pub fn judge_vertices(n: u32, vertices: &[u32]) -> Result<(), u32> {
     refuse_unless(inside && !twice, 5)
 }
 
+/// Whether a table may hold it: a number up to the largest length, or no path.
+pub fn is_length(l: u32) -> bool {
+    l <= MAX_LENGTH || l == NO_PATH
+}
+
 /// Cause 6, of the row of place `i`, which has its diagonal there.
 pub fn judge_row(i: usize, row: &[u32]) -> Result<(), u32> {
-    refuse_unless(row.iter().all(|&l| l <= MAX_LENGTH) && row[i] == 0, 6)
+    refuse_unless(row.iter().all(|&l| is_length(l)) && row[i] == 0, 6)
 }
 
 /// Cause 7, of a piece.

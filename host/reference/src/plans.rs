@@ -3,11 +3,17 @@
 //! Where the lengths come from: the shortest runs between vertices on the edge of a planar piece always pass the check, since two
 //! runs that cross can be swapped at a common vertex (`city`). And each ordered pair of places lies in one block only, so that a table
 //! may be put together from any rectangles that pass, each chosen for itself (`hostile`): these obey no triangle rule.
+//!
+//! Which places may be no path: a rectangle still passes if some of its rows and columns are closed, and in each other row all but a
+//! stretch of columns, where neither end of these stretches falls from a row to the next. For if the two corners on the larger side have
+//! a path, so have the other two.
 
 use crate::model::{Model, MAX_LABEL};
 use crate::network::{
-    blocks, Piece, Plan, CALLS, LABELS, MAX_LENGTH, MAX_SIZE, MAX_VERTICES, RECTANGLE, ROOM, SIZES,
+    blocks, obey, plus, Piece, Plan, CALLS, LABELS, MAX_LENGTH, MAX_SIZE, MAX_VERTICES, NO_PATH, RECTANGLE,
+    ROOM, SIZES,
 };
+use std::ops::Range;
 
 /// SplitMix64.
 pub struct Rng(u64);
@@ -66,13 +72,41 @@ pub enum Kind {
     Diagonal,
     /// row terms, column terms and random steps
     Free,
+    /// no path anywhere
+    Closed,
+    /// about a third of the columns closed, and nothing else: many intervals of one parent
+    Gaps,
+    /// rows and columns closed, and a stretch of each other row open
+    Stretches,
+    /// one path in each row
+    Thin,
+    /// paths laid one by one, each wherever the check still passes
+    Laid,
 }
 
+/// The kinds without no path.
+pub const OPEN_KINDS: [Kind; 5] = [Kind::Zeros, Kind::Ties, Kind::Largest, Kind::Diagonal, Kind::Free];
+
+/// The kinds with no path.
+pub const CLOSED_KINDS: [Kind; 5] = [Kind::Closed, Kind::Gaps, Kind::Stretches, Kind::Thin, Kind::Laid];
+
 /// Every kind once.
-pub const KINDS: [Kind; 5] = [Kind::Zeros, Kind::Ties, Kind::Largest, Kind::Diagonal, Kind::Free];
+pub const KINDS: [Kind; 10] = [
+    Kind::Zeros,
+    Kind::Ties,
+    Kind::Largest,
+    Kind::Diagonal,
+    Kind::Free,
+    Kind::Closed,
+    Kind::Gaps,
+    Kind::Stretches,
+    Kind::Thin,
+    Kind::Laid,
+];
 
 /// A rectangle that passes the check.
 pub fn rectangle(rows: usize, columns: usize, kind: Kind, rng: &mut Rng) -> Vec<Vec<u32>> {
+    let open = |rng: &mut Rng| rectangle(rows, columns, rng.pick(&OPEN_KINDS), rng);
     match kind {
         Kind::Zeros => vec![vec![0; columns]; rows],
         Kind::Ties => steps(rows, columns, 1, 1, 16, rng),
@@ -88,6 +122,21 @@ pub fn rectangle(rows: usize, columns: usize, kind: Kind, rng: &mut Rng) -> Vec<
             let step = (MAX_LENGTH - 2 * term) / (rows * columns) as u32;
             steps(rows, columns, term, step, 2, rng)
         }
+        Kind::Closed => vec![vec![NO_PATH; columns]; rows],
+        Kind::Gaps => {
+            let kept = some(columns, 3, rng);
+            keep(open(rng), |_, k| kept[k])
+        }
+        Kind::Stretches => {
+            let (rows_kept, columns_kept) = (some(rows, 8, rng), some(columns, 8, rng));
+            let kept = stretches(rows, columns, rng);
+            keep(open(rng), |i, k| rows_kept[i] && columns_kept[k] && kept[i].contains(&k))
+        }
+        Kind::Thin => {
+            let kept = rising(rows, columns - 1, rng);
+            keep(open(rng), |i, k| kept[i] == k)
+        }
+        Kind::Laid => laid(rows, columns, rng),
     }
 }
 
@@ -119,17 +168,70 @@ fn steps(rows: usize, columns: usize, term: u32, step: u32, rare: u32, rng: &mut
     e
 }
 
+/// So many numbers from 0 to `last` that never fall.
+fn rising(count: usize, last: usize, rng: &mut Rng) -> Vec<usize> {
+    let mut numbers: Vec<usize> = (0..count).map(|_| rng.from(0, last as u32) as usize).collect();
+    numbers.sort_unstable();
+    numbers
+}
+
 /// Entry (i, k) is the square of the distance of two points on a line; both kinds of points rise.
 fn diagonal(rows: usize, columns: usize, rng: &mut Rng) -> Vec<Vec<u32>> {
-    let last = MAX_LENGTH.isqrt();
-    let mut points = |count: usize| -> Vec<u32> {
-        let mut points: Vec<u32> = (0..count).map(|_| rng.from(0, last)).collect();
-        points.sort_unstable();
-        points
-    };
-    let (tops, lefts) = (points(columns), points(rows));
-    let row = |x: &u32| tops.iter().map(|y| x.abs_diff(*y).pow(2)).collect();
+    let last = MAX_LENGTH.isqrt() as usize;
+    let (tops, lefts) = (rising(columns, last, rng), rising(rows, last, rng));
+    let row = |x: &usize| tops.iter().map(|y| x.abs_diff(*y).pow(2) as u32).collect();
     lefts.iter().map(row).collect()
+}
+
+// ---- closed places
+
+/// A mark for each of so many: one in `rare` is false.
+fn some(count: usize, rare: u32, rng: &mut Rng) -> Vec<bool> {
+    (0..count).map(|_| rng.below(rare) > 0).collect()
+}
+
+/// A stretch of columns for each row; neither end falls from a row to the next.
+fn stretches(rows: usize, columns: usize, rng: &mut Rng) -> Vec<Range<usize>> {
+    let drawn: Vec<Vec<usize>> = (0..rows).map(|_| rising(2, columns, rng)).collect();
+    // all starts in order, and all ends: each start is still at most the end in its place
+    let in_order = |which: usize| {
+        let mut all: Vec<usize> = drawn.iter().map(|pair| pair[which]).collect();
+        all.sort_unstable();
+        all
+    };
+    in_order(0).into_iter().zip(in_order(1)).map(|(start, end)| start..end).collect()
+}
+
+/// The same rectangle with no path wherever the test of row and column fails.
+fn keep(mut e: Vec<Vec<u32>>, test: impl Fn(usize, usize) -> bool) -> Vec<Vec<u32>> {
+    for (i, row) in e.iter_mut().enumerate() {
+        for (_, length) in row.iter_mut().enumerate().filter(|&(k, _)| !test(i, k)) {
+            *length = NO_PATH;
+        }
+    }
+    e
+}
+
+/// A path is laid, or a length changed, wherever it obeys the inequality with all others.
+fn laid(rows: usize, columns: usize, rng: &mut Rng) -> Vec<Vec<u32>> {
+    let mut e = vec![vec![NO_PATH; columns]; rows];
+    let longest = rng.pick(&[0, 2, 9, MAX_LENGTH]);
+    for _ in 0..rng.below(2 * (rows * columns) as u32) {
+        let (i, k) = (rng.below(rows as u32) as usize, rng.below(columns as u32) as usize);
+        let before = e[i][k];
+        e[i][k] = rng.from(0, longest);
+        if !fits(&e, i, k) {
+            e[i][k] = before;
+        }
+    }
+    e
+}
+
+/// Whether the place in row i and column k obeys the inequality with all others.
+fn fits(e: &[Vec<u32>], i: usize, k: usize) -> bool {
+    let in_order = |a: usize, b: usize| [a.min(b), a.max(b)];
+    let others = |count: usize, one: usize| (0..count).filter(move |&other| other != one);
+    others(e.len(), i).all(|j| others(e[i].len(), k).all(|l| obey(e, in_order(i, j), in_order(k, l))))
 }
 
 // ---- plans
@@ -149,12 +251,41 @@ fn table(m: usize, kinds: &[Kind], rng: &mut Rng) -> Vec<Vec<u32>> {
     lengths
 }
 
-/// Pieces of these sizes, each at most n, with vertices drawn from 1 to n and blocks of these kinds.
-pub fn hostile(n: u32, sizes: &[usize], kinds: &[Kind], rng: &mut Rng) -> Plan {
-    let mut piece = |&m: &usize| Piece { vertices: rng.choose(n, m), lengths: table(m, kinds, rng) };
+/// One arc from each of m vertices, to the next one clockwise.
+fn ring(m: usize, rng: &mut Rng) -> Vec<Vec<u32>> {
+    let mut length = |i: usize, j: usize| {
+        if i == j {
+            0
+        } else if (i + 1) % m == j {
+            rng.from(0, MAX_LENGTH)
+        } else {
+            NO_PATH
+        }
+    };
+    (0..m).map(|i| (0..m).map(|j| length(i, j)).collect()).collect()
+}
+
+/// Pieces of these sizes, each at most n, with vertices drawn from 1 to n.
+fn random_pieces(
+    n: u32,
+    sizes: &[usize],
+    rng: &mut Rng,
+    table: impl Fn(usize, &mut Rng) -> Vec<Vec<u32>>,
+) -> Plan {
+    let mut piece = |&m: &usize| Piece { vertices: rng.choose(n, m), lengths: table(m, rng) };
     let pieces = sizes.iter().map(&mut piece).collect();
     let source = rng.from(1, n);
     Plan { n, pieces, source, target: None }
+}
+
+/// Such pieces with blocks of these kinds.
+pub fn hostile(n: u32, sizes: &[usize], kinds: &[Kind], rng: &mut Rng) -> Plan {
+    random_pieces(n, sizes, rng, |m, rng| table(m, kinds, rng))
+}
+
+/// Such pieces in which all tracks lead clockwise from each vertex to the next.
+pub fn rings(n: u32, sizes: &[usize], rng: &mut Rng) -> Plan {
+    random_pieces(n, sizes, rng, ring)
 }
 
 /// The longest street of a town.
@@ -169,6 +300,22 @@ pub fn longest_street(side: usize) -> u32 {
 /// Streets on a grid: `down` times `across` square pieces, `side` streets along each, with 4 * side vertices on the edge. Streets are at
 /// most `longest` and at least a tenth of it. Lengths differ by direction, and streets inside a piece may be one-way.
 pub fn city(down: usize, across: usize, side: usize, longest: u32, rng: &mut Rng) -> Plan {
+    city_with_works(down, across, side, longest, NO_WORKS, rng)
+}
+
+/// The `works` of a city without any.
+const NO_WORKS: u32 = 0;
+
+/// The same with one street in `works` closed in each direction: some vertices of a piece are then not reached from others inside it.
+/// Even a run over all crossings of a piece must be no longer than the largest length.
+pub fn city_with_works(
+    down: usize,
+    across: usize,
+    side: usize,
+    longest: u32,
+    works: u32,
+    rng: &mut Rng,
+) -> Plan {
     let (height, width) = (down * side + 1, across * side + 1);
     let on_edge = |y: usize, x: usize| (y % side) * (x % side) == 0;
     let crossings = (0..height).flat_map(|y| (0..width).map(move |x| (y, x)));
@@ -184,7 +331,7 @@ pub fn city(down: usize, across: usize, side: usize, longest: u32, rng: &mut Rng
             let around = clockwise(side);
             pieces.push(Piece {
                 vertices: around.iter().map(|&(y, x)| vertex[top + y][left + x]).collect(),
-                lengths: planar_table(side, &around, longest, rng),
+                lengths: planar_table(side, &around, longest, works, rng),
             });
         }
     }
@@ -202,15 +349,25 @@ fn clockwise(side: usize) -> Vec<(usize, usize)> {
     top.chain(right).chain(bottom).chain(left).collect()
 }
 
-/// The shortest runs between the crossings on the edge of a square with random streets.
-fn planar_table(side: usize, around: &[(usize, usize)], longest: u32, rng: &mut Rng) -> Vec<Vec<u32>> {
-    const CLOSED: u32 = MAX_LENGTH + 1;
+/// The shortest runs between the crossings on the edge of a square with random streets, of which one in `works` is closed.
+fn planar_table(
+    side: usize,
+    around: &[(usize, usize)],
+    longest: u32,
+    works: u32,
+    rng: &mut Rng,
+) -> Vec<Vec<u32>> {
     let count = (side + 1) * (side + 1);
-    let mut distances = vec![vec![CLOSED; count]; count];
+    let mut distances = vec![vec![NO_PATH; count]; count];
     for (a, b, inside) in streets(side) {
         let one_way = if inside { rng.below(6) } else { 2 };
-        distances[a][b] = if one_way == 0 { CLOSED } else { rng.from(longest / 10, longest) };
-        distances[b][a] = if one_way == 1 { CLOSED } else { rng.from(longest / 10, longest) };
+        distances[a][b] = if one_way == 0 { NO_PATH } else { rng.from(longest / 10, longest) };
+        distances[b][a] = if one_way == 1 { NO_PATH } else { rng.from(longest / 10, longest) };
+        for [from, to] in [[a, b], [b, a]] {
+            if works != NO_WORKS && rng.below(works) == 0 {
+                distances[from][to] = NO_PATH;
+            }
+        }
     }
     for (k, from) in distances.iter_mut().enumerate() {
         from[k] = 0;
@@ -218,8 +375,8 @@ fn planar_table(side: usize, around: &[(usize, usize)], longest: u32, rng: &mut 
     for middle in 0..count {
         for from in 0..count {
             for to in 0..count {
-                distances[from][to] =
-                    distances[from][to].min(distances[from][middle] + distances[middle][to]);
+                let over = plus(distances[from][middle], distances[middle][to]);
+                distances[from][to] = distances[from][to].min(over);
             }
         }
     }
@@ -229,7 +386,7 @@ fn planar_table(side: usize, around: &[(usize, usize)], longest: u32, rng: &mut 
 }
 
 /// The streets of a square, between neighbouring crossings that are numbered row by row, and whether each lies inside. Those on the
-/// edge join all of it in both directions.
+/// edge join all of it in both directions, if none is closed.
 fn streets(side: usize) -> Vec<(usize, usize, bool)> {
     let wide = side + 1;
     let across =
@@ -252,23 +409,71 @@ fn thinned(mut plan: Plan, rng: &mut Rng) -> Plan {
     plan
 }
 
-/// The longest route: all vertices one behind the other, and the question from the first to the last of them. A short arc leads from each
-/// to the next, and every other arc of a piece is longer than all its short ones together.
-pub fn path(rng: &mut Rng) -> Plan {
+/// The same plan with a third of each block closed that has three columns or more.
+pub fn narrowed(mut plan: Plan) -> Plan {
+    for piece in &mut plan.pieces {
+        for block in blocks(piece.vertices.len()) {
+            let (rows, columns) = (block.rows.len(), block.columns.len());
+            for (i, row) in block.rows.into_iter().enumerate() {
+                // as wide in each row, and further along the columns from the first row to the last
+                let start = i * (columns / 3) / (rows - 1).max(1);
+                let kept = start..start + columns - columns / 3;
+                for (_, &column) in block.columns.iter().enumerate().filter(|(k, _)| !kept.contains(k)) {
+                    piece.lengths[row][column] = NO_PATH;
+                }
+            }
+        }
+    }
+    plan
+}
+
+/// The same plan with one vertex of each piece cut off inside it: no run leads from it, or none to it, or neither.
+pub fn cut_off(mut plan: Plan, rng: &mut Rng) -> Plan {
+    for piece in &mut plan.pieces {
+        let m = piece.vertices.len();
+        let v = rng.below(m as u32) as usize;
+        let [no_way_out, no_way_in] = rng.pick(&[[true, false], [false, true], [true, true]]);
+        for other in (0..m).filter(|&other| other != v) {
+            if no_way_out {
+                piece.lengths[v][other] = NO_PATH;
+            }
+            if no_way_in {
+                piece.lengths[other][v] = NO_PATH;
+            }
+        }
+    }
+    plan
+}
+
+/// The same tables, but no run leads from a vertex of one half of all vertices to one of the other half. The vertices of each piece are
+/// put in order, so that a line parts those of one half from those of the other.
+pub fn cut_in_two(mut plan: Plan) -> Plan {
+    for piece in &mut plan.pieces {
+        let is_second = |v: &u32| *v > plan.n / 2;
+        piece.vertices.sort_by_key(is_second);
+        let side: Vec<bool> = piece.vertices.iter().map(is_second).collect();
+        piece.lengths = keep(std::mem::take(&mut piece.lengths), |i, j| side[i] == side[j]);
+    }
+    plan
+}
+
+/// All vertices one behind the other, and the question from the first to the last of them. An arc of this length leads from each to the
+/// next, so many of them in each piece, and every other arc of a piece has the other length.
+fn in_line(arcs: usize, next: u32, other: u32, rng: &mut Rng) -> Plan {
     let vertices = rng.choose(MAX_VERTICES, LABELS);
     let length = |i: usize, j: usize| {
         if i == j {
             0
         } else if i + 1 == j {
-            MAX_LENGTH / MAX_SIZE
+            next
         } else {
-            MAX_LENGTH
+            other
         }
     };
     // a piece begins with the vertex that the one before it ends with
-    let starts = (0..LABELS - 1).step_by(ROOM - 1);
+    let starts = (0..LABELS - 1).step_by(arcs);
     let piece = |start: usize| {
-        let vertices = vertices[start..LABELS.min(start + ROOM)].to_vec();
+        let vertices = vertices[start..LABELS.min(start + arcs + 1)].to_vec();
         let m = vertices.len();
         let row = |i: usize| (0..m).map(|j| length(i, j)).collect();
         Piece { lengths: (0..m).map(row).collect(), vertices }
@@ -279,6 +484,16 @@ pub fn path(rng: &mut Rng) -> Plan {
         source: vertices[0],
         target: Some(vertices[LABELS - 1]),
     }
+}
+
+/// The longest route: every other arc of a piece is longer than all its short ones together.
+pub fn path(rng: &mut Rng) -> Plan {
+    in_line(ROOM - 1, MAX_LENGTH / MAX_SIZE, MAX_LENGTH, rng)
+}
+
+/// The largest label: all arcs are of the largest length, and there are no others.
+pub fn farthest(rng: &mut Rng) -> Plan {
+    in_line(LABELS / SIZES, MAX_LENGTH, NO_PATH, rng)
 }
 
 /// No target, the source, any vertex, or one of the last piece.
@@ -316,10 +531,36 @@ pub fn all(seed: u64) -> Vec<Plan> {
         let kinds = [rng.pick(&KINDS), rng.pick(&KINDS)];
         plans.push(hostile(n, &sizes, &kinds, rng));
     }
+    plans.extend(with_no_path(rng));
     for plan in &mut plans {
         plan.target = target(plan, rng);
     }
     plans.push(path(rng));
+    plans.push(farthest(rng));
+    plans
+}
+
+/// Plans with closed tracks, vertices cut off, and networks cut in two.
+fn with_no_path(rng: &mut Rng) -> Vec<Plan> {
+    let mut plans = Vec::new();
+    for (down, across, side) in [(1, 1, 1), (1, 3, 2), (2, 2, 3), (3, 2, 5), (4, 4, 4), (4, 4, 6)] {
+        for works in [2, 4, 9] {
+            plans.push(city_with_works(down, across, side, TOWN_STREET, works, rng));
+        }
+        plans.push(narrowed(city(down, across, side, longest_street(side), rng)));
+        let plan = city(down, across, side, TOWN_STREET, rng);
+        plans.push(cut_off(plan, rng));
+        plans.push(cut_in_two(city(down, across, side, TOWN_STREET, rng)));
+    }
+    for (n, sizes) in [(MAX_VERTICES, &[ROOM; SIZES][..]), (30, &[24, 23, 1, 2, 7]), (9, &[9, 2, 3, 4, 5])] {
+        plans.push(rings(n, sizes, rng));
+        for kinds in [OPEN_KINDS, CLOSED_KINDS] {
+            plans.push(narrowed(hostile(n, sizes, &kinds, rng)));
+            let plan = hostile(n, sizes, &kinds, rng);
+            plans.push(cut_off(plan, rng));
+            plans.push(cut_in_two(hostile(n, sizes, &kinds, rng)));
+        }
+    }
     plans
 }
 
@@ -349,6 +590,21 @@ pub fn session(kind: Kind, unused: u32, rng: &mut Rng) -> Session {
         model.call(call[0], call[1], call[2]);
     }
     Session { rows: rows as u32, cols: columns as u32, count: count as u32, lengths, calls }
+}
+
+/// Three rows with so many closed columns, at most 10, and three activations: the last inserts as many intervals as one ever does, three and
+/// one more for each closed column.
+pub fn most_inserted(closed: usize) -> Session {
+    let columns = 2 * closed + 4;
+    let is_closed = |k: &usize| k.is_multiple_of(2) && (2..=2 * closed).contains(k);
+    // the middle row wins all but the first and the last column from the two others
+    let entries: [&dyn Fn(usize) -> usize; 3] = [&|k| k, &|_| 1, &|k| columns - 1 - k];
+    let row = |entry: &dyn Fn(usize) -> usize| -> Vec<u32> {
+        (0..columns).map(|k| if is_closed(&k) { NO_PATH } else { entry(k) as u32 }).collect()
+    };
+    let mut calls = vec![0; CALLS];
+    calls[..9].copy_from_slice(&[1, 0, 1, 1, 2, 1, 1, 1, 0]);
+    Session { rows: 3, cols: columns as u32, count: 3, lengths: lent_rectangle(&entries.map(row), 0), calls }
 }
 
 fn random_call(rows: u32, floor: u32, rng: &mut Rng) -> [u32; 3] {

@@ -3,6 +3,7 @@
 use crate::model::{label_plan, Labelling};
 use crate::network::{
     judge_blocks, judge_bounds, judge_question, judge_row, judge_size, judge_vertices, Piece, Plan, MAX_TEXT,
+    NO_PATH,
 };
 
 /// The number that six bytes say, or 3.
@@ -16,11 +17,30 @@ pub fn field(bytes: &[u8]) -> Result<u32, u32> {
     Ok(digits.iter().fold(0, |x, digit| 10 * x + u32::from(digit - b'0')))
 }
 
+/// How no path stands in a length field.
+const DASH: &[u8] = b"     -";
+
+/// The length that six bytes say, or 3: no other field may be no path.
+pub fn length(bytes: &[u8]) -> Result<u32, u32> {
+    if bytes == DASH {
+        return Ok(NO_PATH);
+    }
+    field(bytes)
+}
+
+/// The six bytes at a place of the text, or 3.
+fn six_at(text: &[u8], at: usize) -> Result<&[u8], u32> {
+    let end = at.checked_add(6).ok_or(3u32)?;
+    text.get(at..end).ok_or(3)
+}
+
 /// The field at a place of the text, or 3.
 pub fn field_at(text: &[u8], at: usize) -> Result<u32, u32> {
-    let end = at.checked_add(6).ok_or(3u32)?;
-    field(text.get(at..end).ok_or(3u32)?)
+    field(six_at(text, at)?)
 }
+
+/// How six bytes are read.
+type Reading = fn(&[u8]) -> Result<u32, u32>;
 
 struct Reader<'a> {
     text: &'a [u8],
@@ -28,17 +48,17 @@ struct Reader<'a> {
 }
 
 impl Reader<'_> {
-    fn field(&mut self) -> Result<u32, u32> {
-        let x = field_at(self.text, self.at)?;
+    fn next(&mut self, reading: Reading) -> Result<u32, u32> {
+        let x = reading(six_at(self.text, self.at)?)?;
         self.at += 6;
         Ok(x)
     }
 
     /// So many fields and one byte 10.
-    fn line(&mut self, count: u32) -> Result<Vec<u32>, u32> {
+    fn line(&mut self, count: u32, reading: Reading) -> Result<Vec<u32>, u32> {
         let mut fields = Vec::new();
         for _ in 0..count {
-            fields.push(self.field()?);
+            fields.push(self.next(reading)?);
         }
         if self.text.get(self.at) != Some(&10) {
             return Err(3);
@@ -48,13 +68,13 @@ impl Reader<'_> {
     }
 
     fn piece(&mut self, n: u32) -> Result<Piece, u32> {
-        let m = self.field()?;
+        let m = self.next(field)?;
         judge_size(m)?;
-        let vertices = self.line(m)?;
+        let vertices = self.line(m, field)?;
         judge_vertices(n, &vertices)?;
         let mut lengths = Vec::new();
         for i in 0..m as usize {
-            let row = self.line(m)?;
+            let row = self.line(m, length)?;
             judge_row(i, &row)?;
             lengths.push(row);
         }
@@ -66,7 +86,7 @@ impl Reader<'_> {
     /// The source, and the target if there is one: the question line has one field if byte 10 follows it, else two.
     fn question(&mut self, n: u32) -> Result<(u32, Option<u32>), u32> {
         let count = if self.text.get(self.at + 6) == Some(&10) { 1 } else { 2 };
-        let fields = self.line(count)?;
+        let fields = self.line(count, field)?;
         let (source, target) = (fields[0], fields.get(1).copied());
         judge_question(n, source, target)?;
         Ok((source, target))
@@ -79,7 +99,7 @@ pub fn read(text: &[u8]) -> Result<Plan, u32> {
         return Err(2);
     }
     let mut reader = Reader { text, at: 0 };
-    let first = reader.line(2)?;
+    let first = reader.line(2, field)?;
     let (n, p) = (first[0], first[1]);
     judge_bounds(n, p)?;
     let mut pieces = Vec::new();
@@ -93,10 +113,19 @@ pub fn read(text: &[u8]) -> Result<Plan, u32> {
     Ok(Plan { n, pieces, source, target })
 }
 
+/// A number in six columns; only lengths are no path.
+fn six_columns(x: u32) -> String {
+    if x == NO_PATH {
+        format!("{:>6}", "-")
+    } else {
+        format!("{x:6}")
+    }
+}
+
 /// The text of a plan.
 pub fn write(plan: &Plan) -> Vec<u8> {
     let line = |fields: &[u32]| -> String {
-        let columns: String = fields.iter().map(|x| format!("{x:6}")).collect();
+        let columns: String = fields.iter().map(|&x| six_columns(x)).collect();
         columns + "\n"
     };
     let mut text = line(&[plan.n, plan.pieces.len() as u32]);

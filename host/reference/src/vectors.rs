@@ -1,6 +1,7 @@
-//! The outside vectors of the index, as the program `replay_index` reads and prints them.
+//! The outside vectors of sessions and of the index, as the programs `replay_sessions` and `replay_index` read and print them.
 
-use crate::network::{MAX_SIZE, RECTANGLE, ROOM};
+use crate::network::{ANSWERS, CALLS, INTERVALS, INTERVAL_SIZE, MAX_CALLS, MAX_SIZE, RECTANGLE, ROOM};
+use crate::plans::Session;
 
 /// A rectangle as it is lent, the places that it does not use holding 7, and each question with its answer: row, first column, end; code,
 /// column.
@@ -23,14 +24,63 @@ pub fn of_the_index() -> Vec<Asked> {
 
 fn asked(given: &mut impl Iterator<Item = u32>, answers: &mut impl Iterator<Item = u32>) -> Asked {
     let [rows, cols] = next(given);
-    assert!([rows, cols].iter().all(|side| (1..=MAX_SIZE).contains(side)));
-    let mut lengths = vec![7; RECTANGLE];
-    for row in lengths.chunks_mut(ROOM).take(rows as usize) {
-        row[..cols as usize].fill_with(|| next::<1>(given)[0]);
-    }
+    let lengths = rectangle(rows, cols, given);
     let [count] = next(given);
     let questions = (0..count).map(|_| (next(given), next(answers))).collect();
     Asked { rows, cols, lengths, questions }
+}
+
+/// A session as it is lent, with what it returns and leaves: number, inserted, removed; answers and intervals. A refused one leaves 7s.
+pub struct Played {
+    pub session: Session,
+    pub returned: [u32; 3],
+    pub answers: Vec<u32>,
+    pub intervals: Vec<u32>,
+}
+
+/// All of them.
+pub fn of_sessions() -> Vec<Played> {
+    let mut given = numbers(include_str!("../../../crates/replay_sessions/stdin"));
+    let mut shown = numbers(include_str!("../../../crates/replay_sessions/stdout"));
+    let [count] = next(&mut given);
+    let all = (0..count).map(|_| played(&mut given, &mut shown)).collect();
+    assert!(given.next().is_none() && shown.next().is_none(), "the vectors go on");
+    all
+}
+
+fn played(given: &mut impl Iterator<Item = u32>, shown: &mut impl Iterator<Item = u32>) -> Played {
+    let [rows, cols, count] = next(given);
+    let lengths = rectangle(rows, cols, given);
+    let mut calls = vec![7; CALLS];
+    if count <= MAX_CALLS {
+        calls[..3 * count as usize].fill_with(|| next::<1>(given)[0]);
+    }
+    let returned = next(shown);
+    let (mut answers, mut intervals) = (vec![7; ANSWERS], vec![7; INTERVALS]);
+    if returned[0] == 0 {
+        answers = padded(shown, 3 * count as usize, ANSWERS, 0);
+        let [kept] = next(shown);
+        intervals = padded(shown, INTERVAL_SIZE * kept as usize, INTERVALS, 255);
+    }
+    Played { session: Session { rows, cols, count, lengths, calls }, returned, answers, intervals }
+}
+
+/// A buffer of so many places: the next numbers, and behind them what unused places hold.
+fn padded(shown: &mut impl Iterator<Item = u32>, used: usize, places: usize, unused: u32) -> Vec<u32> {
+    let mut buffer: Vec<u32> = (0..used).map(|_| next::<1>(shown)[0]).collect();
+    buffer.resize(places, unused);
+    buffer
+}
+
+/// The rows of a rectangle, if there are any, as they are lent: unused places hold 7.
+fn rectangle(rows: u32, cols: u32, given: &mut impl Iterator<Item = u32>) -> Vec<u32> {
+    let mut lengths = vec![7; RECTANGLE];
+    if [rows, cols].iter().all(|side| (1..=MAX_SIZE).contains(side)) {
+        for row in lengths.chunks_mut(ROOM).take(rows as usize) {
+            row[..cols as usize].fill_with(|| next::<1>(given)[0]);
+        }
+    }
+    lengths
 }
 
 fn numbers(text: &'static str) -> impl Iterator<Item = u32> {

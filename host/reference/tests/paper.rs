@@ -1,20 +1,20 @@
-//! The model against documents 01 and 02: the depot examples, the best of an interval, routes, the index of a block, and the causes that the
-//! papers name.
+//! The model against documents 01 and 02: the depot examples, the best of an interval, routes, the index of a block, no path, and the causes
+//! that the papers name.
 
-use reference::damage::{chain_and, depot_asked, depot_with, long_lengths, text, texts};
+use reference::damage::{chain_and, depot_asked, depot_with, long_lengths, one_way_and, text, texts};
 use reference::damage::{CHAIN_LISTING, CHAIN_QUESTION, DEPOT, DEPOT_LISTING};
 use reference::entries::{ask_index, build_index};
 use reference::entries::{check_network, label_network, read_text, route_network, run_session};
 use reference::index;
 use reference::model::{label_plan, Model, MAX_LABEL, UNREACHED};
-use reference::network::{is_monge, Lent};
+use reference::network::{closed_columns, is_monge, Lent};
 use reference::network::{
     ANSWERS, ARC_SIZE, CALLS, INDEX, INDEX_ROW, INTERVALS, LABELS, LENGTHS, LINE, LISTING, MAX_ARCS,
-    MAX_LENGTH, NO_TARGET, RECTANGLE, ROOM, ROUTE_PLACES, SIZES, VERTICES,
+    MAX_LENGTH, NO_PATH, NO_TARGET, RECTANGLE, ROOM, ROUTE_PLACES, SIZES, VERTICES,
 };
 use reference::number_of;
-use reference::plans::{lent_rectangle, path, Rng};
-use reference::text::{field, listing, read, write};
+use reference::plans::{farthest, lent_rectangle, most_inserted, path, session, Rng, Session, KINDS};
+use reference::text::{field, length, listing, read, write};
 
 #[test]
 fn p1_and_p2() {
@@ -240,10 +240,11 @@ fn an_index_is_judged_in_the_stated_order() {
     let mut held = [7; INDEX];
     assert_eq!(build_index(0, 2, &lengths[1..], &mut held), 1);
     assert_eq!(build_index(0, 2, &lengths, &mut held[1..]), 1);
-    assert_eq!(build_index(0, 2, &with(0, u32::MAX), &mut held), 4);
+    assert_eq!(build_index(0, 2, &with(0, 1_000_000), &mut held), 4);
     assert_eq!(build_index(2, 25, &lengths, &mut held), 4);
     assert_eq!(build_index(2, 2, &with(0, 1_000_000), &mut held), 6);
     assert_eq!(build_index(2, 2, &with(1, 2), &mut held), 7);
+    assert_eq!(build_index(2, 2, &with(0, NO_PATH), &mut held), 7);
     assert_eq!(held, [7; INDEX]);
     assert_eq!(build_index(2, 2, &lengths, &mut held), 0);
     assert_eq!((held[0], held[INDEX_ROW]), (0, 1));
@@ -260,7 +261,158 @@ fn an_index_is_judged_in_the_stated_order() {
         assert_eq!(ask(&lengths, [2, 2, row, first, end]), [50, 0]);
     }
     // lengths are not judged once more
-    assert_eq!(ask(&with(0, u32::MAX), [2, 2, 0, 0, 2]), [0, 0]);
+    assert_eq!(ask(&with(0, 1_000_000), [2, 2, 0, 0, 2]), [0, 0]);
+}
+
+// ---- no path: document 02, request 7
+
+/// A session without calls on a rectangle, every other place holding 7. Returns its number.
+fn judged(rows: &[&[u32]]) -> u32 {
+    let (lengths, calls) = (lent_rectangle(rows, 7), [7; CALLS]);
+    let (mut answers, mut intervals) = ([7; ANSWERS], [7; INTERVALS]);
+    let (count, width) = (rows.len() as u32, rows[0].len() as u32);
+    run_session(count, width, 0, &lengths, &calls, &mut answers, &mut intervals)[0]
+}
+
+/// The check: neighbouring corners, of rows and of columns, are not enough. No path is no number above the largest length.
+#[test]
+fn p23() {
+    const X: u32 = NO_PATH;
+    assert_eq!(judged(&[&[5, X, 0], &[0, X, 0]]), 7);
+    assert_eq!(judged(&[&[0, X, 0], &[0, X, 1]]), 7);
+    assert_eq!(judged(&[&[0, 0], &[X, X], &[0, 1]]), 7);
+    assert_eq!(judged(&[&[0, X], &[X, 0]]), 0);
+    assert_eq!(judged(&[&[X, 0], &[0, X]]), 7);
+    assert_eq!(judged(&[&[0, X], &[0, 0]]), 0);
+    assert_eq!(judged(&[&[X, 0], &[0, 0]]), 7);
+    assert_eq!(judged(&[&[X, X], &[X, X]]), 0);
+    assert_eq!(judged(&[&[X]]), 0);
+    assert_eq!(judged(&[&[X - 1]]), 6);
+    assert_eq!(judged(&[&[MAX_LENGTH + 1]]), 6);
+}
+
+/// A length field.
+#[test]
+fn p24_to_p26() {
+    let (answer, lent) = read_lent(&one_way_and("     3\n"));
+    assert_eq!(answer, [0, 3, 2, 3, NO_TARGET]);
+    assert_eq!(places_not_0(&lent.lengths), [(1, NO_PATH), (24, 6), (577, 7), (600, 8)]);
+    assert_eq!(length(b"     -"), Ok(NO_PATH));
+    for bytes in [b"-     ", b"    - ", b"    --", b"    -3", b"   - -", b"0    -", b"\t    -"] {
+        assert_eq!(length(bytes), Err(3), "{bytes:?}");
+    }
+    // never on the diagonal, and nowhere else than in a table
+    assert_refused(&depot_with(&[(2, "     -     3     7     5")]), 6);
+    assert_refused(&one_way_and("     -\n"), 3);
+    assert_refused(&one_way_and("     3     -\n"), 3);
+    assert_eq!(field(b"     -"), Err(3));
+}
+
+#[test]
+fn p27() {
+    let alone = [
+        "        1        1        0        0",
+        "        1        0",
+        "        2        -",
+        "        3        -",
+    ];
+    assert_eq!(listing(&one_way_and("     1\n")), text(&alone));
+    let back = [
+        "        3        3        3        3",
+        "        1       14",
+        "        2        8",
+        "        3        0",
+    ];
+    assert_eq!(listing(&one_way_and("     3\n")), text(&back));
+    let unreached = one_way_and("     1     3\n");
+    assert_eq!(listing(&unreached), b"        1        3        -        0\n");
+    assert_eq!(route_lent(&unreached), ([0, UNREACHED, 0], arcs_in_buffer(&[])));
+}
+
+/// A closed column lies in no interval: an activation inserts four, with what is left on both sides.
+#[test]
+fn p28() {
+    const X: u32 = NO_PATH;
+    let mut model = Model::new(vec![vec![0, 1, X, 3, 4], vec![2, 1, X, 1, 2], vec![4, 3, X, 1, 0]]);
+    model.call(1, 0, 1);
+    model.call(1, 2, 1);
+    assert_eq!(model.intervals(), [[0, 0, 1, 0, 1], [2, 3, 4, 4, 1]]);
+    assert_eq!((model.inserted, model.removed), (3, 1));
+    model.call(1, 1, 0);
+    let kept = [[0, 0, 0, 0, 1], [1, 1, 1, 1, 1], [1, 3, 3, 3, 1], [2, 4, 4, 4, 1]];
+    assert_eq!(model.intervals(), kept);
+    assert_eq!((model.inserted, model.removed), (7, 3));
+}
+
+/// A column without a path is never handed out, and one that a later row reaches is.
+#[test]
+fn p29() {
+    let mut closed = Model::new(vec![vec![5, NO_PATH], vec![6, NO_PATH]]);
+    closed.call(1, 0, 0);
+    closed.call(1, 1, 0);
+    assert_eq!(closed.call(2, 0, 0), [0, 0, 5]);
+    assert_eq!(closed.call(2, 0, 0), [50, 0, 0]);
+    assert_eq!((closed.inserted, closed.removed), (1, 1));
+
+    let mut later = Model::new(vec![vec![5, NO_PATH], vec![6, 4]]);
+    later.call(1, 0, 0);
+    assert_eq!(later.call(2, 0, 0), [0, 0, 5]);
+    assert_eq!(later.call(2, 0, 0), [50, 0, 0]);
+    later.call(1, 1, 5);
+    assert_eq!(later.intervals(), [[1, 1, 1, 1, 9]]);
+    assert_eq!(later.call(2, 0, 0), [0, 1, 9]);
+    assert_eq!((later.inserted, later.removed), (2, 2));
+}
+
+/// A stretch that is all no path has its lowest column.
+#[test]
+fn p30() {
+    let row = [3, NO_PATH, NO_PATH, NO_PATH, 1];
+    let held = index::of_row(&row);
+    assert_eq!(held, [4, 0, 4, 4]);
+    assert_eq!(index::ask(&row, &held, 1..4), Some(1));
+    assert_eq!(index::ask(&row, &held, 2..4), Some(2));
+    assert_eq!(index::ask(&row, &held, 1..5), Some(4));
+}
+
+/// How many columns of a session's rectangle are closed, and how many intervals each call inserts.
+fn insertions(s: &Session) -> (u32, Vec<u32>) {
+    let row = |i: usize| s.lengths[ROOM * i..][..s.cols as usize].to_vec();
+    let rectangle: Vec<Vec<u32>> = (0..s.rows as usize).map(row).collect();
+    let closed = closed_columns(&rectangle) as u32;
+    let mut model = Model::new(rectangle);
+    let calls = s.calls.chunks(3).take(s.count as usize);
+    let inserted = calls.map(|call| {
+        let before = model.inserted;
+        model.call(call[0], call[1], call[2]);
+        model.inserted - before
+    });
+    (closed, inserted.collect())
+}
+
+/// An activation inserts at most three intervals, and one more for each closed column.
+#[test]
+fn the_intervals_of_an_activation() {
+    let mut rng = Rng::new(71);
+    for kind in KINDS.repeat(400) {
+        let s = session(kind, 7, &mut rng);
+        let (closed, inserted) = insertions(&s);
+        assert!(inserted.iter().all(|&count| count <= 3 + closed), "{s:?}");
+    }
+    for closed in 0..=10 {
+        let (counted, inserted) = insertions(&most_inserted(closed as usize));
+        assert_eq!((counted, inserted[2]), (closed, 3 + closed));
+    }
+}
+
+#[test]
+fn the_largest_label() {
+    let plan = farthest(&mut Rng::new(72));
+    let (done, target) = (label_plan(&plan), plan.target.unwrap());
+    assert_eq!((done.reached, done.label(target)), (256, MAX_LABEL));
+    assert_eq!(done.route(target).len(), MAX_ARCS);
+    let lines = listing(&write(&plan));
+    assert!(lines.starts_with(format!("{:9}{target:9}254999745      255\n", plan.source).as_bytes()));
 }
 
 #[test]
@@ -279,7 +431,7 @@ fn sizes_and_bounds_are_the_stated_ones() {
     assert_eq!([MAX_ARCS, ARC_SIZE, ROUTE_PLACES], [255, 4, 1_020]);
     assert_eq!([INDEX_ROW, INDEX], [23, 552]);
     assert_eq!([LINE, LISTING], [36, 9_472]);
-    assert_eq!([MAX_LENGTH, MAX_LABEL], [999_999, 254_999_745]);
+    assert_eq!([MAX_LENGTH, MAX_LABEL, NO_PATH], [999_999, 254_999_745, 4_294_967_295]);
 }
 
 #[test]
@@ -307,10 +459,14 @@ fn a_network_is_judged_in_the_stated_order() {
     assert_eq!(check(&|l| l.sizes[0] = 25), 4);
     assert_eq!(check(&|l| l.vertices[1] = 1), 5);
     assert_eq!(check(&|l| l.lengths[25] = 1), 6);
+    assert_eq!(check(&|l| l.lengths[25] = NO_PATH), 6);
     assert_eq!(check(&|l| l.lengths[1] = 999_999), 0);
     assert_eq!(check(&|l| l.lengths[1] = 1_000_000), 6);
+    assert_eq!(check(&|l| l.lengths[1] = NO_PATH - 1), 6);
+    assert_eq!(check(&|l| l.lengths[1] = NO_PATH), 0);
     assert_eq!(check(&|l| l.lengths[3] = 10), 7);
-    assert_eq!(check(&|l| l.lengths[4] = u32::MAX), 0); // not read
+    assert_eq!(check(&|l| l.lengths[3] = NO_PATH), 7);
+    assert_eq!(check(&|l| l.lengths[4] = NO_PATH - 1), 0); // not read
     let mut labels = [7; LABELS];
     assert_eq!(label_network(&lent, 0, &mut labels), [8, 0, 0, 0]);
     assert_eq!(label_network(&lent, 6, &mut labels), [8, 0, 0, 0]);

@@ -1,9 +1,10 @@
-//! The model against the outside vectors of the program `labels` and of the index, which share nothing with it.
+//! The model against the outside vectors of the program `labels`, of sessions and of the index, which share nothing with it.
 
-use reference::entries::{ask_index, build_index};
-use reference::network::INDEX;
+use reference::entries::{ask_index, build_index, run_session};
+use reference::network::{ANSWERS, INDEX, INTERVALS, NO_PATH};
+use reference::plans::Session;
 use reference::text::listing;
-use reference::vectors::{of_the_index, Asked};
+use reference::vectors::{of_sessions, of_the_index, Asked, Played};
 use std::fs;
 use std::path::Path;
 
@@ -31,5 +32,20 @@ fn stored_questions_are_answered_as_stored() {
                 "{row} {first} {end}"
             );
         }
+    }
+}
+
+#[test]
+fn stored_sessions_run_as_stored() {
+    let all = of_sessions();
+    assert!(all.iter().any(|played| played.session.lengths.contains(&NO_PATH)));
+    for Played { session, returned, answers, intervals } in all {
+        let Session { rows, cols, count, lengths, calls } = &session;
+        let (mut left_answers, mut left_intervals) = ([7; ANSWERS], [7; INTERVALS]);
+        let answer =
+            run_session(*rows, *cols, *count, lengths, calls, &mut left_answers, &mut left_intervals);
+        assert_eq!(answer, returned, "{session:?}");
+        assert_eq!(left_answers[..], answers, "{session:?}");
+        assert_eq!(left_intervals[..], intervals, "{session:?}");
     }
 }

@@ -7,10 +7,10 @@ use Rattle.second_opinion.proofs.graphs.lay_rim.Statement.{statement}
 use Rattle.second_opinion.proofs.graphs.lay_rim.Tie as tie
 
 abbrev Inv-loop : tie.InvT-loop
-Inv-loop seed₀ graph₀ u₀ seed graph u = length graph ≡ length graph₀
+Inv-loop seed₀ graph₀ is-whole u₀ seed graph u = length graph ≡ length graph₀
 
 abbrev μ-loop : tie.MeasureT-loop
-μ-loop seed₀ graph₀ u₀ seed graph u = 24 - u
+μ-loop seed₀ graph₀ is-whole u₀ seed graph u = 24 - u
 
 pub lay-rim-spec : {M : Type 1} → statement M
 lay-rim-spec =
