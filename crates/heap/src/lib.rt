@@ -331,7 +331,14 @@ fn rest_len(first: usize, end: usize) -> usize
     0
 }
 
-// Place k gets what is left of an interval, the columns from `first` up to `end`, if there are any.
+// What is left of an interval: its parent, and its columns from `first` up to `end`.
+struct Rest {
+    parent: usize,
+    first: usize,
+    end: usize,
+}
+
+// Place k gets what is left of an interval, if there are any columns.
 fn put_rest(
     heap: &mut [u32],
     rows: &[[u32; Network::ROW_PLACES]],
@@ -340,15 +347,16 @@ fn put_rest(
     cols: usize,
     labels: &[u32],
     k: usize,
-    parent: usize,
-    first: usize,
-    end: usize,
+    rest: Rest,
 )
-    requires fits { ⌜ (heapWords (k + restLen first end) ≤ length (now heap)) × StretchFits (now rows) col0 (now labels) parent first end ⌝ }
-    requires indexed { ⌜ (end ≤ cols) × HasIndex (now index) (now rows) col0 cols ⌝ }
-    ensures { λ _. ⌜ PutRestLeaves (now (heap .entry)) (now (heap .exit)) (now (rows .entry)) col0 (now (labels .entry)) k parent first end ⌝ }
+    requires fits { ⌜ (heapWords (k + restLen (rest .first) (rest .end)) ≤ length (now heap)) × StretchFits (now rows) col0 (now labels) (rest .parent) (rest .first) (rest .end) ⌝ }
+    requires indexed { ⌜ (rest .end ≤ cols) × HasIndex (now index) (now rows) col0 cols ⌝ }
+    ensures { λ _. ⌜ PutRestLeaves (now (heap .entry)) (now (heap .exit)) (now (rows .entry)) col0 (now (labels .entry)) k (rest .parent) (rest .first) (rest .end) ⌝ }
 {
+    let first = rest.first;
+    let end = rest.end;
     if first < end {
+        let parent = rest.parent;
         put_columns(heap, rows, index, col0, cols, labels, k, parent, first, end);
     }
 }
@@ -379,8 +387,8 @@ fn put_run(
     sum
 }
 
-// The places from `place` on get the runs of a row's columns from `first` up to `end`, so many; it has a path at the first and the last of these columns.
-// Returns the least of their sums.
+// The places from `place` on get the runs of the columns that a row wins, so many; it has a path at the first and the last of these columns. Returns the
+// least of their sums.
 fn put_runs(
     heap: &mut [u32],
     rows: &[[u32; Network::ROW_PLACES]],
@@ -391,14 +399,14 @@ fn put_runs(
     row: usize,
     place: usize,
     number: usize,
-    first: usize,
-    end: usize,
+    won: Won,
 ) -> u32
-    requires fits { ⌜ PutRunsNeeds (now heap) (now rows) col0 (now labels) row place number first end ⌝ }
-    requires indexed { ⌜ (end ≤ cols) × HasIndex (now index) (now rows) col0 cols ⌝ }
-    ensures { λ r. ⌜ PutRunsLeaves (now (heap .entry)) (now (heap .exit)) (now (rows .entry)) col0 (now (labels .entry)) row place number first end r ⌝ }
+    requires fits { ⌜ PutRunsNeeds (now heap) (now rows) col0 (now labels) row place number (won .first) (won .end) ⌝ }
+    requires indexed { ⌜ (won .end ≤ cols) × HasIndex (now index) (now rows) col0 cols ⌝ }
+    ensures { λ r. ⌜ PutRunsLeaves (now (heap .entry)) (now (heap .exit)) (now (rows .entry)) col0 (now (labels .entry)) row place number (won .first) (won .end) r ⌝ }
 {
-    let mut c = first;
+    let end = won.end;
+    let mut c = won.first;
     let mut k = place;
     let mut sum = Network::UNREACHED;
     while k + 1 < place + number {
@@ -446,30 +454,18 @@ fn cut(
     let before = rest_len(first as usize, column as usize);
     let number = before + rest_len(next as usize, end as usize);
     make_room(heap, place, place + 1, number);
-    put_rest(
-        heap,
-        rows,
-        index,
-        col0,
-        cols,
-        labels,
-        place,
+    let left = Rest {
         parent,
-        first as usize,
-        column as usize,
-    );
-    put_rest(
-        heap,
-        rows,
-        index,
-        col0,
-        cols,
-        labels,
-        place + before,
+        first: first as usize,
+        end: column as usize,
+    };
+    let right = Rest {
         parent,
-        next as usize,
-        end as usize,
-    );
+        first: next as usize,
+        end: end as usize,
+    };
+    put_rest(heap, rows, index, col0, cols, labels, place, left);
+    put_rest(heap, rows, index, col0, cols, labels, place + before, right);
     number
 }
 
@@ -906,13 +902,6 @@ pub struct Activated {
     pub sum: u32,
 }
 
-// What is left of an interval: its parent, and its columns from `first` up to `end`.
-struct Rest {
-    parent: usize,
-    first: usize,
-    end: usize,
-}
-
 // What is left before column `first` of the first of the intervals lo up to hi; nothing where there are none.
 fn left_rest(heap: &[u32], lo: usize, hi: usize, first: usize) -> Rest
     requires { ⌜ (heapWords hi ≤ length (now heap)) ⌝ }
@@ -999,43 +988,9 @@ fn put_won(
     let place = lo + rest_len(left.first, left.end);
     let number = place - lo + runs + rest_len(right.first, right.end);
     make_room(heap, lo, hi, number);
-    put_rest(
-        heap,
-        rows,
-        index,
-        col0,
-        cols,
-        labels,
-        lo,
-        left.parent,
-        left.first,
-        left.end,
-    );
-    put_rest(
-        heap,
-        rows,
-        index,
-        col0,
-        cols,
-        labels,
-        place + runs,
-        right.parent,
-        right.first,
-        right.end,
-    );
-    let sum = put_runs(
-        heap,
-        rows,
-        index,
-        col0,
-        cols,
-        labels,
-        row,
-        place,
-        runs,
-        won.first,
-        won.end,
-    );
+    put_rest(heap, rows, index, col0, cols, labels, lo, left);
+    put_rest(heap, rows, index, col0, cols, labels, place + runs, right);
+    let sum = put_runs(heap, rows, index, col0, cols, labels, row, place, runs, won);
     Activated {
         inserted: number as u32,
         removed: (hi - lo) as u32,

@@ -118,4 +118,4 @@ cut-spec =
     tie.close (tie.spec parent-requires first-requires cast-first last-requires cast-last cast-column add-next add-end
     (λ c. search needs) (λ c. search needs) (λ c κs. search needs) (λ c. search needs) (λ c. search needs)
     (λ c κs. search needs) add-number add-make-room make-room-requires (λ c. search needs) (λ c. search needs)
-    put-rest-requires add-put-rest (λ c. search needs) (λ c. search needs) put-rest-requires-2 same-length returns)
+    (λ c. search needs) (λ c. search needs) put-rest-requires add-put-rest put-rest-requires-2 same-length returns)

@@ -8,10 +8,10 @@ use Rattle.heap.proofs.put_runs.Statement.{statement}
 use Rattle.heap.proofs.put_runs.Tie as tie
 
 abbrev Inv-loop : tie.InvT-loop
-Inv-loop heap₀ rows index col0 cols labels row place number first end c₀ k₀ sum₀ heap c k sum = RunsKeeps heap₀ heap rows col0 labels row place number first end k c sum
+Inv-loop heap₀ rows index col0 cols labels row place number end first k₀ sum₀ heap c k sum = RunsKeeps heap₀ heap rows col0 labels row place number first end k c sum
 
 abbrev μ-loop : tie.MeasureT-loop
-μ-loop heap₀ rows index col0 cols labels row place number first end c₀ k₀ sum₀ heap c k sum = place + number - k
+μ-loop heap₀ rows index col0 cols labels row place number end first k₀ sum₀ heap c k sum = place + number - k
 
 loop-holds : tie.Need-loop-holds Inv-loop μ-loop
 loop-holds c =
