@@ -28,12 +28,12 @@ use Rattle.heap_laws.specs.Bests.{SameSum}
 use Rattle.heap_laws.specs.ModelCalls.{Activates, Cases, activates, extracts, refuses, cases, step-activate, step-extract}
 use Rattle.heap_laws.specs.Agree.{available-agree, leastFrom-agree, extend-agree}
 use Rattle.preparation.specs.Prepared.{rowIn, colIn, colsIn, rowCountIn}
-use Rattle.heap.specs.declared.Lowest as code
-use Rattle.heap.specs.declared.Activated.{Activated}
+use Rattle.engine.specs.declared.heap.Lowest as code
+use Rattle.engine.specs.declared.heap.Activated.{Activated}
 use Rattle.engine.specs.declared.blocks.Numbers.{Numbers}
-use Rattle.heap.specs.Holds.{sound-of}
-use Rattle.heap.specs.LeastColumn.{LeastLeaves, bestOf, least-is-left}
-use Rattle.heap.specs.HeapCalls.{Becomes, ActivateGiven, Falls, RowActivated, removedBy, ParentIs, MinExtracted}
+use Rattle.engine.specs.Heap.Holds.{sound-of}
+use Rattle.engine.specs.Heap.LeastColumn.{LeastLeaves, bestOf, least-is-left}
+use Rattle.engine.specs.Heap.HeapCalls.{Becomes, ActivateGiven, Falls, RowActivated, removedBy, ParentIs, MinExtracted}
 use Rattle.engine.specs.Tree.TreeWords.{leaves, Key, keyAt, IsTournament, KeyChanged}
 use Rattle.engine.specs.Labeller.State.{Heaps, withWords, heapIn, windowIn, labelsIn, labelAt, numbersIn, BlockLies, HoldsBlock, HoldsBlocks, bests, callAt, CallDone, ExtractionDone, HeapActivated}
 use Rattle.engine.specs.Labeller.LentHeaps.{replaced, window-long, lent-heap, lent-rows, lent-labels, back-here, back-other, back-long}

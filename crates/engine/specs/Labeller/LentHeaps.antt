@@ -19,7 +19,7 @@ use Rattle.definitions.specs.HeapWords.{heapWords}
 use Rattle.definitions.specs.HeldModel.{Holds}
 use Rattle.preparation.specs.Prepared.{slotIn, rowIn, colsIn, rowCountIn, maxWords}
 use Rattle.engine.specs.declared.blocks.Numbers.{Numbers}
-use Rattle.heap.specs.RowBest.{HasIndex}
+use Rattle.engine.specs.Heap.RowBest.{HasIndex}
 use Rattle.engine.specs.Labeller.State.{Tables, Heaps, heapIn, windowIn, indexIn, labelsIn, numbersIn, HoldsBlocks}
 
 -- ---- a part of a list

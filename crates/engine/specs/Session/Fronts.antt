@@ -18,8 +18,8 @@ use Rattle.definitions.specs.Entries.{answerNumbers, answerAt, answersIn, inter
 use Rattle.definitions.specs.HeapWords.{countOf, listedAt, listedIn}
 use Rattle.basics.specs.Buffers.{flatMap-snoc, front-sets, front-full}
 use Rattle.basics.specs.Sequences.{upFrom-snoc, map-next}
-use Rattle.heap.specs.Strides.{group-behind}
-use Rattle.heap.specs.WordLaws.{Word, numbers-long}
+use Rattle.engine.specs.Heap.Strides.{group-behind}
+use Rattle.engine.specs.Heap.WordLaws.{Word, numbers-long}
 
 -- the numbers xs are those of the first k places
 pub record Front (width k : ℕ) (before xs now : List ℕ) : Type 0 where

@@ -12,7 +12,7 @@ use Rattle.definitions.specs.HeldModel.{Checked}
 use Rattle.index.specs.HeldRows.{filledIndex}
 use Rattle.index.specs.HeldLaws.{RowsLong}
 use Rattle.index.specs.IndexTheorems.{filled-tall, filled-indexed}
-use Rattle.heap.specs.RowBest.{HasIndex}
+use Rattle.engine.specs.Heap.RowBest.{HasIndex}
 
 -- before it is filled
 abbrev pub blank : List (List ℕ)

@@ -30,8 +30,8 @@ use Rattle.heap_laws.specs.Counting.{countNew-same}
 use Rattle.heap_laws.specs.Extract.{extracts-least}
 use Rattle.heap_laws.specs.TraceCounts.{call-balance, step-allowed}
 use Rattle.definitions.specs.declared.Called.{Called}
-use Rattle.heap.specs.Holds.{sound-of, relabelled}
-use Rattle.heap.specs.HeapCalls.{Becomes, ActivateGiven, MinExtracted}
+use Rattle.engine.specs.Heap.Holds.{sound-of, relabelled}
+use Rattle.engine.specs.Heap.HeapCalls.{Becomes, ActivateGiven, MinExtracted}
 
 abbrev pub refusal : ℕ → ℕ → Called
 refusal code floor = record { code = code; column = 0; sum = 0; floor = floor; inserted = 0; removed = 0 }

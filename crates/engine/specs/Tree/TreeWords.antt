@@ -16,7 +16,7 @@ use Rattle.definitions.specs.Best.{Best, nobody, by, leastFrom}
 use Rattle.preparation.specs.Prepared.{maxBlocks}
 use Rattle.engine.specs.declared.tree.Chosen.{Chosen}
 use Rattle.engine.specs.declared.tree.Chosen.the-variants.{Block, Nothing}
-use Rattle.heap.specs.WordLaws.{wordEnd}
+use Rattle.engine.specs.Heap.WordLaws.{wordEnd}
 
 -- the least power of two that gives each block a leaf
 abbrev pub levels : ℕ

@@ -5,7 +5,7 @@ use native.Mathlib.Omega.{arith}
 use borrow.Author.Needs.{needs}
 use lib.ListN.{length, take}
 use lib.Seq.{take-length, sets}
-use Rattle.heap.specs.Strides.{sets-more}
+use Rattle.engine.specs.Heap.Strides.{sets-more}
 use Rattle.engine.proofs.session.put_numbers.Statement.{statement}
 use Rattle.engine.proofs.session.put_numbers.Tie as tie
 

@@ -2,7 +2,7 @@
 use mathlib.Core.Path.{refl}
 use native.Mathlib.Omega.{arith}
 use borrow.Author.Needs.{needs}
-use Rattle.heap.specs.Holds.{count-most, laid}
+use Rattle.engine.specs.Heap.Holds.{count-most, laid}
 use Rattle.engine.specs.Session.ServedIndex.{blank-front, index-room, index-front, index-served}
 use Rattle.engine.specs.Session.Whole.{served}
 use Rattle.engine.proofs.session.serve.Statement.{statement}
