@@ -9,7 +9,7 @@ TOP = Path(__file__).resolve().parent.parent
 README, CLAIMS, HOST_README = "README.md", "docs/CLAIMS.md", "host/README.md"
 RELATIONS = "crates/engine/specs/Relations.antt"
 DOCUMENTS = [README, CLAIMS, "docs/DECISIONS.md", "docs/PERFORMANCE.md", HOST_README, RELATIONS]
-RELATED = ["engine", "heap", "definitions", "rectangles", "index"]
+RELATED = ["engine", "definitions", "rectangles", "index"]
 HEADER, CRATE = "host/include/rabdzhine.h", "host/src/lib.rs"
 
 # What stands in backticks and is no name of the repository: formats, commands, words of a language, what a build makes.

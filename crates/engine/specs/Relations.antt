@@ -1,4 +1,4 @@
--- The relations of the engine and of the heap, from what a caller sees down to the words, one sentence each; this file defines nothing.
+-- The relations of the engine, from what a caller sees down to the words, one sentence each; this file defines nothing.
 -- A relation that belongs to a function f is named after it: FNeeds is what f needs, FLeaves what it leaves, FKeeps what its loop keeps. Needs say that some
 -- model fits the arrays; Leaves hold for every model that fitted them. A relation of a state has a name of its own.
 --
@@ -74,7 +74,7 @@
 --   Accepted Sizes Sides  what a session that is not turned away may rely on; its buffers, its numbers
 --   Front                 so many numbers at each of the first places of a buffer, the rest as it was
 --
--- The heap of one block, in the crate `heap`: its words against the model (`HeldModel` and `Index` of the definitions, `HeapCalls`, `LeastColumn`, `RowBest`, `Holds`)
+-- The heap of one block: its words against the model (`HeldModel` and `Index` of the definitions, `Heap/HeapCalls`, `Heap/LeastColumn`, `Heap/RowBest`, `Heap/Holds`)
 --   Checked Holds         the block that is lent is checked; the words hold a given model of it, and say which columns are reached
 --   ActivateGiven ActivateNeeds Leaves    the model is held, and the activation is not refused; for some model; the next model is held, for every model
 --   MinExtracted ExtractMinLeaves    the column of least sum is extracted and answered, with its parent; for every model
@@ -87,7 +87,7 @@
 --   PutWonNeeds Leaves    the columns that are won, with room for the row's intervals; these stand in their place
 --   Owned Where           the parent and the sum of a column of an interval, a number there; a column lies in an interval, or nobody has it
 --
--- The columns that a new row wins (`Search`, `Bisect`)
+-- The columns that a new row wins (`Heap/Search`, `Heap/Bisect`)
 --   SearchNeeds Leaves    what the search may rely on; the intervals that meet the won columns, and the stretch of these
 --   WonAt LostAt          the row wins a column, from an interval's parent or as the first to reach it; it does not
 --   IsBelowNeeds          two rows whose sums at a column can be compared
@@ -101,12 +101,12 @@
 --   GapNeeds Leaves       what the search among columns in no interval may rely on; the stretch of those that the row is the first to reach
 --   FirstIn LastIn        the first of some numbers at which a test holds; one past the last
 --
--- The columns that are reached (`Reaching`, `WordLaws`)
+-- The columns that are reached (`Heap/Reaching`, `Heap/WordLaws`)
 --   Reaches ReachLeaves   the columns of a stretch at which the row has a path are marked in addition; and the intervals are as they were
 --   Counted               each column is marked or not, and the head counts those that are
 --   Marks                 words that agree in what is marked
 --
--- The runs of a row, its intervals where it has a path (`RowRuns`)
+-- The runs of a row, its intervals where it has a path (`Heap/RowRuns`)
 --   TurnsAt               the next column at which the row has a path, or has none
 --   CountKeeps            so many runs lie before a column
 --   RowReads              the columns of a row can be read, and its sums fit where it has a path
@@ -114,7 +114,7 @@
 --   RunsKeeps LeastSum    some of them stand there; the least sum of these
 --   PutRunLeaves          one of them stands there, and the least sum so far takes it in
 --
--- The words (`Laid`, `Clear`, `WordLaws`)
+-- The words (`Heap/Laid`, `Heap/Clear`, `Heap/WordLaws`)
 --   CutNeeds Leaves       a column of an interval; the interval gives way to its rests
 --   Cleared               the same of some columns and the intervals that meet them, with a gap between the rests
 --   CanReplace Replaced   some intervals can give way to two rests; they have

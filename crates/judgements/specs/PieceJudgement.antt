@@ -1,5 +1,5 @@
 -- Laws of the judgement of a piece.
---   passesIn blocks-windows       the blocks of a piece pass exactly if those of its table do
+--   blocks-windows                the blocks of a piece pass exactly if those of its table do
 --   blocks-same table-blocks      they ask for the size and the table only
 --   piece-parts piece-lent        a piece of the lent buffers stands in its own parts of them, and is judged by these
 use mathlib.Core.Path.{_≡_, refl, sym, ap, _∙_}
@@ -20,7 +20,7 @@ use Rattle.definitions.specs.Entries.{hasPlaces}
 use Rattle.definitions.specs.Laws.Causes.{passed, last, size-in}
 use Rattle.logic.specs.Tests.{Equal, equal, differ, equality}
 use Rattle.splits.specs.Windows.{Inside, windows-inside}
-use Rattle.monge.specs.Matrix.{at, rowsIn, blockMongeIn}
+use Rattle.monge.specs.Matrix.{at, rowsIn, passesIn}
 use Rattle.basics.specs.Sequences.{length-upFrom}
 use Rattle.monge.specs.PieceTables.{block-passes}
 use Rattle.basics.specs.PiecePlaces.{block-rows, block-cols}
@@ -37,10 +37,6 @@ every-of-map : {A B : Type 0} (p : B → Bool) (f : A → B) (xs : List A) → e
 unfolding every
 every-of-map p f [] = refl
 every-of-map p f (x ∷ xs) = rw (every-of-map p f xs)
-
--- the check of a block in the table of its piece
-unfoldable pub passesIn : List ℕ → Window → Bool
-passesIn lengths w = blockMongeIn lengths (w .row0) (w .col0) (w .rows) (w .cols)
 
 pub blocks-windows : (m : ℕ) (lengths : List ℕ) (q : Piece) → sizeOf q ≡ m → q .rows ≡ rowsIn m lengths → m ≤ maxSize → length lengths ≡ tablePlaces
     → every passes (blocksOf 0 q) ≡ every (passesIn lengths) (windowsOf m)

@@ -1,22 +1,16 @@
 // The judgements of documents 01 and 02 on a piece, a network and a question, each of which answers 0 or the number of the cause.
 ghost use mathlib.Core.Path.{_≡_};
-ghost use mathlib.Core.Bool.{true};
-ghost use mathlib.Core.List.{[], _∷_};
 ghost use Prim.Native.Nat.{_≤_, _<_};
 ghost use lib.ListN.{length};
 ghost use Rattle.definitions.specs.Limits.{maxPieces, maxSize, sizePlaces, vertexPlaces, lengthPlaces, tablePlaces};
 ghost use Rattle.definitions.specs.Lists.{every, mem, within};
 ghost use Rattle.definitions.specs.Metres.{isLength};
-ghost use Rattle.definitions.specs.Blocks.{allSplits, windows, windowsOf};
 ghost use Rattle.definitions.specs.Judgement.{judgeBounds, judgeSize, judgeVertices, judgeRow, judgeRows, judgeFrom, judgeSource, judgeTarget};
 ghost use Rattle.definitions.specs.Entries.{judgeBuffers, judgeLent};
-ghost use Rattle.splits.specs.Table.{flattened, splitOf};
 ghost use Rattle.monge.specs.Matrix.{rowsIn};
 ghost use Rattle.judgements.specs.LentPieces.{judgeTable, judgePieceIn};
-ghost use Rattle.judgements.specs.PieceJudgement.{passesIn};
 use bounds::Cause;
 use bounds::Network;
-use splits::Split;
 
 // ---- numbers
 
@@ -134,45 +128,6 @@ pub fn judge_row(i: usize, row: &[u32]) -> u32
 
 // ---- the blocks of a piece
 
-// Whether both blocks of a split pass in the table of a piece.
-fn split_passes(lengths: &[u32], split: Split) -> bool
-    requires { ⌜ (split .first ≤ split .middle) × (split .middle ≤ split .end) ⌝ }
-    ensures { λ r. ⌜ r ≡ every (passesIn (now (lengths .entry))) (windows (splitOf split ∷ [])) ⌝ }
-{
-    let low = split.middle - split.first;
-    let high = split.end - split.middle;
-    monge::block_is_monge(lengths, split.first, split.middle, low, high)
-        && monge::block_is_monge(lengths, split.middle, split.first, high, low)
-}
-
-// Whether both blocks of a split pass the quick check, as they do where all lengths are numbers; if not, they may still pass.
-fn quick_split(lengths: &[u32], split: Split) -> bool
-    requires { ⌜ (length (now lengths) ≡ tablePlaces) × (split .first < split .middle) × (split .middle < split .end) × (split .end ≤ maxSize) ⌝ }
-    ensures { λ r. ⌜ (r ≡ true → every (passesIn (now (lengths .entry))) (windows (splitOf split ∷ [])) ≡ true) ⌝ }
-{
-    let low = split.middle - split.first;
-    let high = split.end - split.middle;
-    monge::quick_block(lengths, split.first, split.middle, low, high)
-        && monge::quick_block(lengths, split.middle, split.first, high, low)
-}
-
-// Whether every block of a piece of m places passes in its table; `list` is the list of splits.
-fn blocks_pass(lengths: &[u32], m: usize, list: &[u8]) -> bool
-    requires { ⌜ (length (now lengths) ≡ tablePlaces) × (1 ≤ m) × (m ≤ maxSize) × (now list ≡ flattened allSplits) ⌝ }
-    ensures { λ r. ⌜ r ≡ every (passesIn (now (lengths .entry))) (windowsOf m) ⌝ }
-{
-    let first = splits::first_split(m);
-    let mut j = 0;
-    while j + 1 < m {
-        let split = splits::split_in(list, first + j);
-        if !quick_split(lengths, split) && !split_passes(lengths, split) {
-            return false;
-        }
-        j += 1;
-    }
-    true
-}
-
 // The blocks of a piece of size m whose table stands in the places of one table, else 7.
 pub fn judge_blocks(m: u32, lengths: &[u32]) -> u32
     ensures { λ r. ⌜ r ≡ judgeTable m (now (lengths .entry)) ⌝ }
@@ -184,8 +139,7 @@ pub fn judge_blocks(m: u32, lengths: &[u32]) -> u32
     if cause != Cause::NONE {
         return cause;
     }
-    let list = splits::table();
-    if blocks_pass(lengths, m as usize, &list) {
+    if monge::table_is_monge(lengths, m as usize) {
         return Cause::NONE;
     }
     Cause::BLOCK

@@ -9,7 +9,9 @@ ghost use Rattle.definitions.specs.Limits.{maxSize, sizePlaces, vertexPlaces, r
 ghost use Rattle.definitions.specs.Blocks.{allSplits};
 ghost use Rattle.definitions.specs.HeapWords.{heapWords};
 ghost use Rattle.splits.specs.Table.{flattened, splitOf};
-ghost use Rattle.preparation.specs.Prepared.{sizeAt, matrixRow, matrixOf, filledMatrix, storePlace, storePlaces, placesOf, splitPlacements, piecePlacements, partNumbers, pieceBlocks, maxBlocks, maxWords, splitWords, placeCount, partPlaces, Stored, partsOf, firstsOf, sizesOf, verticesOf, tableCount, tablesOf, filledTables};
+ghost use Rattle.preparation.specs.Prepared.{sizeAt, matrixRow, matrixOf, filledMatrix, storePlace, storePlaces, placesOf, splitPlacements, piecePlacements};
+ghost use Rattle.preparation.specs.Prepared.{partNumbers, pieceBlocks, maxBlocks, maxWords, splitWords, placeCount, partPlaces, Stored, partsOf};
+ghost use Rattle.preparation.specs.Prepared.{firstsOf, sizesOf, verticesOf, tableCount, tablesOf, filledTables};
 ghost use Rattle.preparation.specs.BlockIndex.{filledBlock, filledUpTo, filledBlocks};
 use bounds::Network;
 use bounds::Session;

@@ -14,15 +14,14 @@ pub struct Asked {
 
 /// All of them.
 pub fn of_the_index() -> Vec<Asked> {
-    let mut given = numbers(include_str!("../../../crates/replay_index/stdin"));
-    let mut answers = numbers(include_str!("../../../crates/replay_index/stdout"));
-    let [count] = next(&mut given);
-    let all = (0..count).map(|_| asked(&mut given, &mut answers)).collect();
-    assert!(given.next().is_none() && answers.next().is_none(), "the vectors go on");
-    all
+    all(
+        include_str!("../../../crates/replay_index/stdin"),
+        include_str!("../../../crates/replay_index/stdout"),
+        asked,
+    )
 }
 
-fn asked(given: &mut impl Iterator<Item = u32>, answers: &mut impl Iterator<Item = u32>) -> Asked {
+fn asked(given: &mut Numbers, answers: &mut Numbers) -> Asked {
     let [rows, cols] = next(given);
     let lengths = rectangle(rows, cols, given);
     let [count] = next(given);
@@ -40,15 +39,14 @@ pub struct Played {
 
 /// All of them.
 pub fn of_sessions() -> Vec<Played> {
-    let mut given = numbers(include_str!("../../../crates/replay_sessions/stdin"));
-    let mut shown = numbers(include_str!("../../../crates/replay_sessions/stdout"));
-    let [count] = next(&mut given);
-    let all = (0..count).map(|_| played(&mut given, &mut shown)).collect();
-    assert!(given.next().is_none() && shown.next().is_none(), "the vectors go on");
-    all
+    all(
+        include_str!("../../../crates/replay_sessions/stdin"),
+        include_str!("../../../crates/replay_sessions/stdout"),
+        played,
+    )
 }
 
-fn played(given: &mut impl Iterator<Item = u32>, shown: &mut impl Iterator<Item = u32>) -> Played {
+fn played(given: &mut Numbers, shown: &mut Numbers) -> Played {
     let [rows, cols, count] = next(given);
     let lengths = rectangle(rows, cols, given);
     let mut calls = vec![7; CALLS];
@@ -66,14 +64,14 @@ fn played(given: &mut impl Iterator<Item = u32>, shown: &mut impl Iterator<Item 
 }
 
 /// A buffer of so many places: the next numbers, and behind them what unused places hold.
-fn padded(shown: &mut impl Iterator<Item = u32>, used: usize, places: usize, unused: u32) -> Vec<u32> {
+fn padded(shown: &mut Numbers, used: usize, places: usize, unused: u32) -> Vec<u32> {
     let mut buffer: Vec<u32> = (0..used).map(|_| next::<1>(shown)[0]).collect();
     buffer.resize(places, unused);
     buffer
 }
 
 /// The rows of a rectangle, if there are any, as they are lent: unused places hold 7.
-fn rectangle(rows: u32, cols: u32, given: &mut impl Iterator<Item = u32>) -> Vec<u32> {
+fn rectangle(rows: u32, cols: u32, given: &mut Numbers) -> Vec<u32> {
     let mut lengths = vec![7; RECTANGLE];
     if [rows, cols].iter().all(|side| (1..=MAX_SIZE).contains(side)) {
         for row in lengths.chunks_mut(ROOM).take(rows as usize) {
@@ -83,11 +81,23 @@ fn rectangle(rows: u32, cols: u32, given: &mut impl Iterator<Item = u32>) -> Vec
     lengths
 }
 
-fn numbers(text: &'static str) -> impl Iterator<Item = u32> {
-    text.split_whitespace().map(|word| word.parse().expect("a number"))
+type Numbers = std::vec::IntoIter<u32>;
+
+/// All vectors of a program, from what it reads and what it prints: how many there are, then each of them.
+fn all<T>(read: &str, printed: &str, one: impl Fn(&mut Numbers, &mut Numbers) -> T) -> Vec<T> {
+    let (mut given, mut shown) = (numbers(read), numbers(printed));
+    let [count] = next(&mut given);
+    let all = (0..count).map(|_| one(&mut given, &mut shown)).collect();
+    assert!(given.next().is_none() && shown.next().is_none(), "the vectors go on");
+    all
+}
+
+fn numbers(text: &str) -> Numbers {
+    let all: Vec<u32> = text.split_whitespace().map(|word| word.parse().expect("a number")).collect();
+    all.into_iter()
 }
 
 /// The next `N` numbers.
-fn next<const N: usize>(numbers: &mut impl Iterator<Item = u32>) -> [u32; N] {
+fn next<const N: usize>(numbers: &mut Numbers) -> [u32; N] {
     std::array::from_fn(|_| numbers.next().expect("a number more"))
 }

@@ -3,10 +3,10 @@ use mathlib.Core.Path.{sym, _∙_}
 use native.Mathlib.Omega.{arith}
 use borrow.Author.Needs.{needs}
 use Rattle.logic.specs.Tests.{clash}
 use Rattle.monge.specs.Rectangles.{quick-passes}
-use Rattle.judgements.proofs.SplitOrder.{both-blocks}
-use Rattle.judgements.proofs.quick_split.Statement.{statement}
-use Rattle.judgements.proofs.quick_split.Tie as tie
+use Rattle.monge.proofs.SplitOrder.{both-blocks}
+use Rattle.monge.proofs.quick_split.Statement.{statement}
+use Rattle.monge.proofs.quick_split.Tie as tie
 
 returns : tie.Need-returns
 returns c t =

@@ -16,8 +16,7 @@ use Rattle.splits.specs.declared.Split as code
 use Rattle.splits.specs.Table.{flattened, noSplit, splitOf, splitIn, firstSplit}
 use Rattle.splits.specs.Halving.{size-count}
 use Rattle.splits.specs.Sizes.{Cut, cut-at, split-is}
-use Rattle.monge.specs.Matrix.{blockMongeIn}
-use Rattle.judgements.specs.PieceJudgement.{passesIn}
+use Rattle.monge.specs.Matrix.{blockMongeIn, passesIn}
 
 pub both-blocks : (lengths : List ℕ) (c : Split)
     → every (passesIn lengths) (windows (c ∷ []))

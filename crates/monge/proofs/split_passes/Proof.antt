@@ -1,8 +1,8 @@
 -- `split_passes`: the two blocks of the split, in the table.
 use borrow.Author.Needs.{needs}
-use Rattle.judgements.proofs.SplitOrder.{both-blocks}
-use Rattle.judgements.proofs.split_passes.Statement.{statement}
-use Rattle.judgements.proofs.split_passes.Tie as tie
+use Rattle.monge.proofs.SplitOrder.{both-blocks}
+use Rattle.monge.proofs.split_passes.Statement.{statement}
+use Rattle.monge.proofs.split_passes.Tie as tie
 
 returns : tie.Need-returns
 returns c = rw (both-blocks, ← c .before .before .block-is-monge .ensures, c .before .if1 .taken) (c .block-is-monge2 .ensures)
