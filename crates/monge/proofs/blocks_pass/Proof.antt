@@ -16,11 +16,11 @@ use Rattle.monge.proofs.blocks_pass.Statement.{statement}
 use Rattle.monge.proofs.blocks_pass.Tie as tie
 
 abbrev Inv-loop : tie.InvT-loop
-Inv-loop lengths m list first j₀ j =
-    (j ≤ m - 1) × (every (passesIn lengths) (windowsOf m) ≡ every (passesIn lengths) (windows (drop j (splitsOf m))))
+Inv-loop lengths m list first k₀ k =
+    (k ≤ m - 1) × (every (passesIn lengths) (windowsOf m) ≡ every (passesIn lengths) (windows (drop k (splitsOf m))))
 
 abbrev μ-loop : tie.MeasureT-loop
-μ-loop lengths m list first j₀ j = m - j
+μ-loop lengths m list first k₀ k = m - k
 
 loop-holds : tie.Need-loop-holds Inv-loop μ-loop
 unfolding windowsOf
@@ -37,7 +37,7 @@ ordered : (c : tie.After-split-in Inv-loop μ-loop) → Cut (c .before .before .
 ordered c =
     let l = c .before .before in
     let s = l .before .before .before .before in
-    in-order _ (s .pre .1) _ (s .pre .2) _ (l .before .first-split .ensures) (l .loop .j) (c .before .loop-test .taken) _ (c .split-in .ensures)
+    in-order _ (s .pre .1) _ (s .pre .2) _ (l .before .first-split .ensures) (l .loop .k) (c .before .loop-test .taken) _ (c .split-in .ensures)
 
 quick-split-requires : tie.Need-quick-split-requires Inv-loop μ-loop
 quick-split-requires c κs =
@@ -53,14 +53,14 @@ returns c =
     let i = c .before .before .before .before in
     let l = i .before .before in
     let s = l .before .before .before .before in
-    stopped _ (s .pre .1) _ (s .pre .2) _ (l .before .first-split .ensures) (l .loop .j) (i .before .loop-test .taken) _ (i .split-in .ensures) _ (l .loop .inv .1) (sym (c .before .split-passes .ensures) ∙ not-true _ (c .if2 .taken))
+    stopped _ (s .pre .1) _ (s .pre .2) _ (l .before .first-split .ensures) (l .loop .k) (i .before .loop-test .taken) _ (i .split-in .ensures) _ (l .loop .inv .1) (sym (c .before .split-passes .ensures) ∙ not-true _ (c .if2 .taken))
 
 loop-again : tie.Need-loop-again Inv-loop μ-loop
 loop-again c =
     let i = c .before .before in
     let l = i .before .before in
     let s = l .before .before .before .before in
-    let next = went _ (s .pre .1) _ (s .pre .2) _ (l .before .first-split .ensures) (l .loop .j) (i .before .loop-test .taken) _ (i .split-in .ensures) _ (l .loop .inv .1) in (
+    let next = went _ (s .pre .1) _ (s .pre .2) _ (l .before .first-split .ensures) (l .loop .k) (i .before .loop-test .taken) _ (i .split-in .ensures) _ (l .loop .inv .1) in (
       search needs,
       ⊎-elim
           (λ u. next (sym (u .1 .ensures) ∙ not-false _ (u .2 .left)))
@@ -72,7 +72,7 @@ returns-2 : tie.Need-returns-2 Inv-loop μ-loop
 unfolding every windows
 returns-2 c =
     let s = c .before .before .before .before .before in
-    rw (c .before .loop .inv .1, ended (s .args .m) (s .pre .1) (c .before .loop .j) (c .loop-test .left))
+    rw (c .before .loop .inv .1, ended (s .args .m) (s .pre .1) (c .before .loop .k) (c .loop-test .left))
 
 pub blocks-pass-spec : {M : Type 1} → statement M
 blocks-pass-spec =
