@@ -1,4 +1,6 @@
 // The listing of a text: what the program `labels` writes for the bytes that it reads.
+#![tactic(auto)]
+
 ghost use Rattle.std.specs.Prelude.{◌≡◌, List, [], ◌∷◌, ◌++◌, ℕ, ◌+◌, ◌*◌, ◌≤◌, ◌<◌, length, take};
 ghost use Rattle.definitions.specs.Limits.{max_vertices, max_arcs, label_places, arc_size, route_places, line_fields};
 ghost use Rattle.definitions.specs.Judgement.{judge_target};

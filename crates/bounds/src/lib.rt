@@ -1,4 +1,5 @@
 // Numbers of documents 01 and 02 that several crates share.
+#![tactic(auto)]
 
 // The bounds of a network and the sizes of its lent buffers.
 #[derive(Drop)]

@@ -1,4 +1,6 @@
 // Lent buffers.
+#![tactic(auto)]
+
 ghost use Rattle.std.specs.Prelude.{◌≡◌, length, replicate};
 
 // One number at every place.

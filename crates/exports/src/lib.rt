@@ -1,5 +1,7 @@
 // The entries for C and Rust, as one static library. Each promises what the entry that it calls promises. An enum does not cross to C: the field reader's value
 // goes to a lent buffer, and what an index answers to a struct.
+#![tactic(auto)]
+
 ghost use Rattle.std.specs.Prelude.{◌≡◌, List, ℕ};
 ghost use Rattle.definitions.specs.declared.Least.{Least};
 ghost use Rattle.definitions.specs.Entries.{reading, label_network, route_network, session, write_field, write_listing, judge_lent, field_entry, build_index, ask_index};

@@ -1,5 +1,7 @@
 // An index of the columns of a row: for each stretch of the row's halving the lowest column of least length. The least of any stretch of the row is then
 // found by halves. It is built and asked for a lent rectangle, and for windows of an array of rows.
+#![tactic(auto)]
+
 ghost use Rattle.std.specs.Prelude.{◌≡◌, ◌&&◌, ℕ, ◌+◌, ◌≤◌, ◌<◌, leb, length};
 ghost use Rattle.definitions.specs.Limits.{row_places, index_row_places};
 ghost use Rattle.definitions.specs.Best.{by, lesser};

@@ -1,4 +1,6 @@
 // The judgements of documents 01 and 02 on a piece, a network and a question, each of which answers 0 or the number of the cause.
+#![tactic(auto)]
+
 ghost use Rattle.std.specs.Prelude.{◌≡◌, ◌≤◌, ◌<◌, length};
 ghost use Rattle.definitions.specs.Limits.{max_pieces, max_size, size_places, vertex_places, length_places, table_places};
 ghost use Rattle.definitions.specs.Lists.{every, mem, within};

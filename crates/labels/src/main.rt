@@ -1,5 +1,7 @@
 // Reads a plan from standard input and writes its listing, or the line of its refusal. A program has no exit status to give, so a
 // listing that could not be written whole, as on a full disk, is told on standard error.
+#![tactic(auto)]
+
 use libc::{STDERR_FILENO, STDIN_FILENO, STDOUT_FILENO};
 
 fn main() {

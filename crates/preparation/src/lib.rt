@@ -1,5 +1,7 @@
 // What the labelling prepares from a lent network before its loop, in arrays that it lends. In the tables a piece that is not there, and one
 // whose size is above 24, counts as empty.
+#![tactic(auto)]
+
 ghost use Rattle.std.specs.Prelude.{◌≡◌, [], ◌∷◌, pred, ◌+◌, ◌-◌, ◌*◌, ◌<◌, ◌≤◌, length, get_or, replicate};
 ghost use Rattle.std.proofs.lemmas.List.Edits.{sets};
 ghost use Rattle.definitions.specs.Limits.{max_size, size_places, vertex_places, row_places, length_places};

@@ -1,4 +1,6 @@
 // A lent rectangle, 24 rows of 24: its rows, and its judgement but for the inequality.
+#![tactic(auto)]
+
 ghost use Rattle.std.specs.Prelude.{◌≡◌, ◌≤◌, ◌<◌};
 ghost use Rattle.definitions.specs.Limits.{max_side, row_places};
 ghost use Rattle.definitions.specs.Entries.{rectangle_of, judge_sides};

@@ -1,5 +1,7 @@
 // Replays a list of fields of six columns. Each line of standard input is six bytes and byte 10; for each the field's value is written, or
 // its refusal. The files `stdin` and `stdout` are the outside vectors.
+#![tactic(auto)]
+
 ghost use Rattle.std.specs.Prelude.{◌≡◌, length};
 
 use bounds::Text;

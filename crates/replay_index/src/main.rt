@@ -2,6 +2,8 @@
 // bounds, how many questions there are, and each as its row, its first column and its end. For each question the code and the column of the answer are
 // written. Both buffers are filled with 7 before. Where an index is refused, its number is written behind `refused`. The files `stdin` and `stdout` are the
 // outside vectors.
+#![tactic(auto)]
+
 ghost use Rattle.std.specs.Prelude.{◌≤◌, ◌≡◌, length};
 
 use bounds::{Cause, Code, Network, Session};

@@ -2,6 +2,8 @@
 // columns are within bounds, and the calls if their number is. For each session its number, inserted and removed are written; if the number is 0 then
 // its answers, how many intervals are kept and these in the order in which they stand. Every buffer is filled with 7 before: where a place that must be
 // left or written is not, `wrong` is written. The files `stdin` and `stdout` are the outside vectors.
+#![tactic(auto)]
+
 ghost use Rattle.std.specs.Prelude.{◌≤◌, ◌≡◌, length};
 
 use bounds::{Cause, Network, Session};

@@ -1,4 +1,6 @@
 // The route to a target: the labelling keeps the arc that each vertex was settled by, and these arcs are followed back from the target.
+#![tactic(auto)]
+
 ghost use Rattle.std.specs.Prelude.{◌≡◌, ◌*◌, length, get_or};
 ghost use Rattle.std.proofs.lemmas.List.Edits.{sets};
 ghost use Rattle.definitions.specs.Limits.{arc_size, vertex_places};

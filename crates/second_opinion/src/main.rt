@@ -11,6 +11,8 @@
 //   closings    closed tracks
 //   networks    networks of such tables
 //   dijkstra    Dijkstra's algorithm
+#![tactic(auto)]
+
 mod closings;
 mod dijkstra;
 mod graphs;

@@ -117,6 +117,7 @@ up_to m (suc d) = let e : suc d + m ≡ suc (d + m) = omega arith in rw (e, up_t
 
 pub split_of_lem : (m i : ℕ) → 1 ≤ m → m ≤ max_size → i < pred m → get_or all_splits (first_split m + i) no_split ≡ get_or (splits_of m) i no_split
 unfolding all_splits splits_up_to
+split_of_lem zero i l h k = absurd (omega arith)
 split_of_lem (suc m) i l h k =
     let e : max_size ≡ (max_size - 1 - m) + suc m = omega arith in
     let f : splits_up_to max_size ≡ splits_up_to (suc m) ++ after (suc m) (max_size - 1 - m) = ap splits_up_to e ∙ up_to (suc m) (max_size - 1 - m) in

@@ -1,4 +1,6 @@
 // The halving of a piece as a list of constants: every split of every size that a piece may have.
+#![tactic(auto)]
+
 ghost use Rattle.std.specs.Prelude.{◌≡◌};
 ghost use Rattle.definitions.specs.Blocks.{all_splits};
 ghost use Rattle.splits.specs.Table.{flattened, split_in, first_split};

@@ -1,4 +1,6 @@
 // The text reader: text of at most 60,000 bytes into the lent sizes, vertices and lengths.
+#![tactic(auto)]
+
 mod field_reader;
 
 ghost use Rattle.std.specs.Prelude.{◌≡◌, [], ◌∷◌, ◌+◌, ◌<◌, ◌≤◌, length, replicate};

@@ -5,13 +5,13 @@
 --   pieces_stop pieces_stopped     pieces
 --   diagonal_is diagonal_back      the whole text
 use Rattle.std.specs.Prelude.{◌≡◌, refl, true, ◌&&◌, ◌≢◌, ◌⊎◌, ℕ, zero, suc, ◌+◌, ◌*◌, ◌≤◌, ◌<◌, leb, get_or}
-use Rattle.std.proofs.Common.{ap, ◌∙◌, inl, inr, leb-true, le-leb, eq-eqb, ne_eqb}
+use Rattle.std.proofs.Common.{subst, sym, ap, ◌∙◌, inl, inr, leb-true, le-leb, eq-eqb, ne_eqb}
 use Rattle.std.proofs.Math.Bool.{and-false}
 use mathlib.Core.List.{List, [], ◌∷◌, ◌++◌, map, flat_map, append_assoc}
 use native.Mathlib.Omega.{arith}
 use Rattle.std.proofs.Math.ListN.{length, drop}
 use Rattle.definitions.specs.Limits.{max_vertices, max_pieces, max_size, max_text}
-use Rattle.definitions.specs.Lists.{every, different, within, total}
+use Rattle.definitions.specs.Lists.{every, Every, different, within, total}
 use Rattle.definitions.specs.Metres.{is_length}
 use Rattle.definitions.specs.Network.{Piece, size_of}
 use Rattle.definitions.specs.Blocks.{blocks_of, passes}
@@ -134,7 +134,7 @@ module _ (text : List ℕ) (n at m : ℕ) (vertices : List ℕ) (size : read_fie
           size = rw long Size-ok;
           vertices_in = vertices-ok;
           judged = rows.judged;
-          wide = rw long (line_length length_at text (at + line_bytes (suc m) + length r.rows * line_bytes m) m r.row r.line, rows.wide);
+          wide = (rw long (line_length length_at text (at + line_bytes (suc m) + length r.rows * line_bytes m) m r.row r.line), subst (λ k. Every (λ row. length row ≡ k) r.rows) (sym long) rows.wide);
           rows_left = omega (arith, r.few);
           short = last.1;
           diagonal = wrong_diagonal (length r.rows) r.row last.1 (rw x at r.judged);

@@ -6,7 +6,7 @@
 --   sorted_same sorts             `by_first_column` gives the same intervals, and from those of a rising list, each once and in any order, that list
 --   order_stays ordered_exactly   so it leaves a rising list as it is, and a list of the same intervals that rises is what it gives
 use Rattle.std.specs.Prelude.{◌≡◌, refl, false, ◌||◌, ◌≢◌, ◌↔◌, ℕ, suc, ◌<◌}
-use Rattle.std.proofs.Common.{sym, ap, ◌∙◌, arith, leb-true, leb-false}
+use Rattle.std.proofs.Common.{subst, sym, ap, ◌∙◌, arith, leb-true, leb-false}
 use Rattle.std.proofs.Math.Bool.{true, or-true}
 use mathlib.Core.List.{List, [], ◌∷◌}
 use Rattle.logic.specs.Tests.{clash, or_right, or_swap, Truth, holds, fails, truth}
@@ -157,7 +157,7 @@ module _ (vs : List Interval) (r : FirstsRise vs) where
   differs u [] k n h = tt
   differs u (w ∷ us) k n h =
       let kept : is_kept w vs ≡ true = h w (head_kept w us) in (
-        (λ e. clash (rw (one_first u w vs r k kept e) (head_kept w us)) n),
+        (λ e. clash (subst (λ x. is_kept x (w ∷ us) ≡ true) (sym (one_first u w vs r k kept e)) (head_kept w us)) n),
         differs u us k (or_right (same_interval u w) (is_kept u us) n) (λ x q. h x (rw q (or-true (same_interval x w)))),
       )
 
