@@ -22,7 +22,7 @@ const FILLER: u32 = 7;
 // ---- reading
 
 // A number of the text, and the place after it.
-#[derive(Drop)]
+#[derive(Clone, Copy)]
 struct Reading {
     value: u32,
     next: usize,

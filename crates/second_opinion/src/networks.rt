@@ -5,7 +5,7 @@ use crate::tables::{KINDS, PLANAR_KINDS, fill_table};
 use bounds::Network;
 
 // How many vertices and pieces a network has, whether tracks are closed in it, and whether it is cut in two.
-#[derive(Drop)]
+#[derive(Clone, Copy)]
 pub(crate) struct Shape {
     pub(crate) n: u32,
     pub(crate) p: u32,

@@ -8,7 +8,7 @@ ghost use Rattle.splits.specs.Table.{flattened, split_in, first_split};
 use bounds::Network;
 
 // A stretch of places, `first` up to `end`, cut at `middle`.
-#[derive(Drop)]
+#[derive(Clone, Copy)]
 pub struct Split {
     pub first: usize,
     pub middle: usize,

@@ -136,7 +136,7 @@ fn read_row(text: &[u8], at: usize, i: usize, out: &mut [u32]) -> u32
 }
 
 // A piece's size, judged before the rest of its line is looked at.
-#[derive(Drop)]
+#[derive(Clone, Copy)]
 struct Size {
     number: u32,
     m: u32,
@@ -216,7 +216,7 @@ fn read_sized(
 }
 
 // The cause that a piece gives, or 0 and where the next line begins.
-#[derive(Drop)]
+#[derive(Clone, Copy)]
 struct Progress {
     number: u32,
     next: usize,
@@ -290,7 +290,7 @@ fn read_pieces(
 }
 
 // A question: the cause that it gives, or 0, the source and the target, which is `NO_TARGET` where there is none.
-#[derive(Drop)]
+#[derive(Clone, Copy)]
 struct Question {
     number: u32,
     source: u32,
