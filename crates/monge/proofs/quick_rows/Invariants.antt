@@ -1,0 +1,14 @@
+-- `quick_rows`: the columns passed agree; the loop ends at the last column, or at the first that does not agree.
+use mathlib.Core.Path.{◌≡◌}
+use mathlib.Core.Bool.{true}
+use Prim.Native.Nat.{◌≤◌, ◌-◌}
+use Rattle.definitions.specs.Lists.{all}
+use Rattle.monge_laws.specs.QuickCheck.{quick_corners}
+use Rattle.monge.specs.Matrix.{two_rows}
+use Rattle.monge.proofs.quick_rows.Given as goal
+
+abbrev pub invariant-loop-k : goal.invariant-loop-k
+invariant-loop-k l = (l.k ≤ l.cols) × (all (quick_corners (two_rows l.lengths l.above l.below) 0) l.k ≡ true)
+
+abbrev pub decreases-loop-k : goal.decreases-loop-k
+decreases-loop-k l = l.cols - l.k
