@@ -1,15 +1,15 @@
--- Document 01, "Splitting a district": the halving, the blocks of a network, the check of a block.
+-- Document 01, "Splitting a district": the halving, the blocks of a network, the check of a block. The law that this list names stands in the file `Blocks` of
+-- proofs/.
 --   Split splits splits_of all_splits    the halving, in the order of 01
 --   Window windows windows_of           the blocks of a size, by places
 --   Block block_of blocks_from blocks    the blocks of a network, by vertices
 --   passes                             the check, with the law that it is the inequality of the file Monge
 --   logarithm weight                   ⌈log₂ m⌉, and the sum over pieces of m·⌈log₂ m⌉: they restate the bound of demand 3
-use Rattle.std.specs.Prelude.{◌≡◌, Bool, true, false, List, [], ◌∷◌, ◌++◌, map, ◌↔◌, ℕ, zero, suc, ◌+◌, ◌-◌, ◌*◌, ◌/◌, ltb, get_or, length}
+use Rattle.std.specs.Prelude.{Bool, true, false, List, [], ◌∷◌, ◌++◌, map, ℕ, zero, suc, ◌+◌, ◌-◌, ◌*◌, ◌/◌, ltb, get_or, length}
 use Rattle.definitions.specs.Limits.{max_size}
 use Rattle.definitions.specs.Lists.{total, up_from, down_to}
 use Rattle.definitions.specs.Network.{Rectangle, Piece, entry, size_of}
-use Rattle.definitions.specs.Monge.{Monge, is_monge}
-use Rattle.definitions.specs.Laws.MongeLaws.{is_monge_is, is_monge_from}
+use Rattle.definitions.specs.Monge.{is_monge}
 
 -- A stretch of places, from `first` up to `end`, cut at `middle` into its first half, before it, and its second, from it on.
 pub record Split : Type 0 where
@@ -101,11 +101,6 @@ no_block = record { piece = 0; rows = []; cols = []; lengths = λ i k. 0 }
 -- a block passes its check
 unfoldable pub passes : Block → Bool
 passes b = is_monge b.lengths (length b.rows) (length b.cols)
-
--- It passes exactly if the inequality holds of every two of its rows and every two of its columns.
-pub passes_exactly : (b : Block) → passes b ≡ true ↔ Monge b.lengths (length b.rows) (length b.cols)
-unfolding passes
-passes_exactly b = (is_monge_is b.lengths (length b.rows) (length b.cols), is_monge_from b.lengths (length b.rows) (length b.cols))
 
 -- ---- the bound of demand 3, restated
 

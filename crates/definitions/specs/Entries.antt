@@ -1,4 +1,5 @@
 -- What each entry returns and leaves in each lent buffer, for every input. The causes are those of document 01, "Causes that turn an input away".
+-- The law that this list names stands in the file `Entries` of proofs/.
 --   session          a session on one block, with the law that the order of its intervals fixes their buffer
 --   build_index ask_index    the index of one block, and a question to it
 --   label_network     the labelling of a lent network
@@ -9,7 +10,7 @@
 --   write_field       the nine-column field writer
 --   listing          what the program `labels` writes
 --   write_listing     the same in a lent buffer
-use Rattle.std.specs.Prelude.{◌≡◌, Bool, cond, ◌&&◌, ℕ, ◌+◌, ◌*◌, eqb, ltb, leb, get_or, length, take, drop, replicate}
+use Rattle.std.specs.Prelude.{Bool, cond, ◌&&◌, ℕ, ◌+◌, ◌*◌, eqb, ltb, leb, get_or, length, take, drop, replicate}
 use mathlib.Core.List.{List, [], ◌∷◌, ◌++◌, map, flat_map}
 use Rattle.std.proofs.Math.Option.{Option, none, some}
 use Rattle.definitions.specs.declared.ReadAnswer.{ReadAnswer}
@@ -25,8 +26,8 @@ use Rattle.definitions.specs.Network.{Rectangle, RouteArc}
 use Rattle.definitions.specs.Monge.{is_monge}
 use Rattle.definitions.specs.Blocks.{blocks}
 use Rattle.definitions.specs.Best.{Best, nobody, by}
-use Rattle.definitions.specs.Intervals.{Interval, interval, SameIntervals, by_first_column, FirstsRise}
-use Rattle.definitions.specs.Model.{intervals, by_first_column_exactly, Listed, with_best, Call, Answer, trace}
+use Rattle.definitions.specs.Intervals.{Interval, interval, by_first_column}
+use Rattle.definitions.specs.Model.{intervals, Listed, with_best, Call, Answer, trace}
 use Rattle.definitions.specs.Index.{index_of, ask, least_found}
 use Rattle.definitions.specs.Labelling.{State, label_of, labelling, reached, extractions, insertions, held_label, labels, route_to}
 use Rattle.definitions.specs.Judgement.{judge_source, judge_target, pieces_of, judge_network}
@@ -101,7 +102,7 @@ answers_in answers count = map (answer_at answers) (up_from 0 count)
 abbrev pub column_numbers : Interval → List ℕ
 column_numbers (interval p f l) = p ∷ f ∷ l ∷ []
 
--- The column and the sum of a best. That of an interval is never nobody (`each_has_best` in the file `Model`), so the first line is not met.
+-- The column and the sum of a best. That of an interval is never nobody (`each_has_best` in the file `Model` of proofs/), so the first line is not met.
 abbrev pub best_numbers : Best → List ℕ
 best_numbers nobody = unused_interval ∷ unused_interval ∷ []
 best_numbers (by c s) = c ∷ s ∷ []
@@ -131,16 +132,6 @@ session rows cols count lengths calls answers kept =
       intervals = intervals_of (map (with_best e t.model) (by_first_column (intervals e cols t.model)));
     } in
     cond (eqb cause 0) done (record { answer = session_refusal cause; answers = answers; intervals = kept })
-
--- This fixes the interval buffer of an accepted session: it holds whatever list has exactly the model's intervals and first columns that rise, with
--- their bests.
-pub buffer_fixed : (rows cols count : ℕ) (lengths calls answers kept : List ℕ) (listed : List Interval) → judge_session rows cols count lengths calls answers kept ≡ 0
-    → let model = (trace (rectangle_of lengths) rows cols (calls_of calls count)).model in
-    SameIntervals listed (intervals (rectangle_of lengths) cols model) → FirstsRise listed
-    → (session rows cols count lengths calls answers kept).intervals ≡ intervals_of (map (with_best (rectangle_of lengths) model) listed)
-unfolding session
-buffer_fixed rows cols count lengths calls answers kept listed accepted same rise =
-    rw (accepted, (by_first_column_exactly (rectangle_of lengths) cols (trace (rectangle_of lengths) rows cols (calls_of calls count)).model listed).1 (same, rise))
 
 -- ---- an index (document 02, request 5)
 

@@ -1,11 +1,10 @@
 -- Document 02, request 5: an index of the columns of a row, and the least length of a stretch, asked of it. A row is given by the length of each of its
--- columns; a stretch by its first column and its end, one past its last.
+-- columns; a stretch by its first column and its end, one past its last. The law that this list names stands in the file `Index` of proofs/.
 --   least_in IsLeast          the lowest column of least length of a stretch, with the law that it is
 --   column_of held_at row_index index_of       what the index holds for a row, and for a rectangle
 --   in_stretch held_in ask     a question, by halves, whatever the index holds
 --   least_found least_answer   its answer
-use Rattle.std.specs.Prelude.{◌≡◌, refl, true, false, cond, ◌&&◌, ◌||◌, ℕ, zero, suc, ◌+◌, ◌-◌, ◌/◌, ◌≤◌, ◌<◌, ltb, leb, get_or}
-use Rattle.std.proofs.Common.{ap, arith}
+use Rattle.std.specs.Prelude.{true, false, cond, ◌&&◌, ◌||◌, ℕ, zero, suc, ◌+◌, ◌-◌, ◌/◌, ◌≤◌, ◌<◌, ltb, leb, get_or}
 use mathlib.Core.List.{List, map, flat_map}
 use Rattle.definitions.specs.declared.Least.{Least}
 use Rattle.definitions.specs.declared.Least.TheVariants.{Column, Nothing, Refused}
@@ -16,7 +15,6 @@ use Rattle.definitions.specs.Network.{Rectangle}
 use Rattle.definitions.specs.Blocks.{Split, splits_of}
 use Rattle.definitions.specs.Best.{Best, nobody, by, lesser, least_from}
 use Rattle.definitions.specs.Model.{nothing_left}
-use Rattle.definitions.specs.Laws.LeastLaws.{least_lowest}
 
 -- ---- the least of a stretch
 
@@ -30,23 +28,6 @@ pub record IsLeast (row : ℕ → ℕ) (first end column : ℕ) : Type 0 where
   pub high : column < end
   pub no_less : (c : ℕ) → first ≤ c → c < end → row column ≤ row c
   pub no_lower : (c : ℕ) → first ≤ c → c < column → row column < row c
-
--- What is found is that column, with its length.
-pub least_in_lem : (row : ℕ → ℕ) (first end column n : ℕ) → first < end → least_in row first (end - first) ≡ by column n → IsLeast row first end column
-unfolding least_in
-least_in_lem row first end column n some found =
-    let f = least_lowest (λ c. by c (row c)) first (end - first) column n found in
-    let e : row column ≡ n = ap length_of f.here in
-    record {
-      low = f.low;
-      high = omega (arith, f.high);
-      no_less = λ c a b. rw e (f.no_less c c (row c) a (omega arith) refl);
-      no_lower = λ c a b. rw e (f.no_lower c c (row c) a b refl);
-    }
-  where
-    length_of : Best → ℕ
-    length_of nobody = 0
-    length_of (by c n) = n
 
 -- ---- the index
 

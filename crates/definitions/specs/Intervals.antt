@@ -90,7 +90,7 @@ put_in_order v [] = v ∷ []
 put_in_order v (u ∷ us) = cond (no_later v u) (v ∷ u ∷ us) (u ∷ put_in_order v us)
 
 -- The same intervals by rising first column: the order in which document 02, request 2, has a session list those that are kept. The laws in the file
--- `Model` say what it comes to.
+-- `Model` of proofs/ say what it comes to.
 unfoldable pub by_first_column : List Interval → List Interval
 by_first_column [] = []
 by_first_column (v ∷ vs) = put_in_order v (by_first_column vs)

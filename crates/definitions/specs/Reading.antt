@@ -1,4 +1,4 @@
--- Document 01, "Text layout": from bytes to a refusal or a plan, judged from front to back. The file `Text` says what it comes to.
+-- Document 01, "Text layout": from bytes to a refusal or a plan, judged from front to back. The file `Text` of proofs/ says what it comes to.
 --   Read require                          refused by a number, or read
 --   FieldReading read_fields read_line      a line's layout: its fields, of one kind, and one byte 10
 --   read_rows read_piece read_pieces         pieces, judged as they are read

@@ -1,5 +1,5 @@
--- Document 01, "Text layout": a plan as its lines, the plans that no cause turns away, and the texts whose first cause is a diagonal. The file `Text` says which of
--- them are read and which are refused by 6.
+-- Document 01, "Text layout": a plan as its lines, the plans that no cause turns away, and the texts whose first cause is a diagonal. The file `Text` of
+-- proofs/ says which of them are read and which are refused by 6.
 --   written_field written_length                      a number and a length as bytes
 --   FieldWriting written_line written_piece           a line, of fields of one kind, and a piece
 --   question_fields written                          the fields of a question line, and a plan as bytes

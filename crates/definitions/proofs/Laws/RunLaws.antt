@@ -5,8 +5,8 @@ use Rattle.std.specs.Prelude.{◌≡◌, refl, true, ◌↔◌, ℕ, suc, pred, 
 use Rattle.std.proofs.Common.{sym, ap, ◌∙◌, le_refl, arith}
 use Rattle.definitions.specs.Best.{Best, nobody, by, least_from}
 use Rattle.definitions.specs.Intervals.{interval, runs, Owned, LongestRun, is_kept}
-use Rattle.definitions.specs.Laws.LeastLaws.{Found, found_is}
-use Rattle.definitions.specs.Laws.RunProofs.{tag, tag_is, IsRun, Longest, runs_longest, kept_every, run_kept}
+use Rattle.definitions.proofs.Laws.LeastLaws.{Found, found_is}
+use Rattle.definitions.proofs.Laws.RunProofs.{tag, tag_is, IsRun, Longest, runs_longest, kept_every, run_kept}
 
 -- a parent as a number
 tag_owned : (w : ℕ → Best) (p k : ℕ) → Owned w p k → tag (w k) ≡ suc p

@@ -12,8 +12,8 @@ use mathlib.Core.List.{List, [], ◌∷◌}
 use Rattle.logic.specs.Tests.{clash, or_right, or_swap, Truth, holds, fails, truth}
 use Rattle.definitions.specs.Lists.{Every}
 use Rattle.definitions.specs.Intervals.{Interval, interval, Rising, same_interval, is_kept, Distinct, SameIntervals, first_column, no_later, put_in_order, by_first_column, BeginsAfter, FirstsRise}
-use Rattle.definitions.specs.Laws.Members.{every_imp}
-use Rattle.definitions.specs.Laws.RunProofs.{same_interval_refl, same_interval_is, kept_every}
+use Rattle.definitions.proofs.Laws.Members.{every_imp}
+use Rattle.definitions.proofs.Laws.RunProofs.{same_interval_refl, same_interval_is, kept_every}
 
 pub rising_after : (c lo : ℕ) (vs : List Interval) → c < lo → Rising lo vs → Every (BeginsAfter c) vs
 rising_after c lo [] h r = tt

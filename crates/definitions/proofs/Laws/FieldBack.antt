@@ -12,7 +12,7 @@ use Rattle.logic.specs.Tests.{clash, and_left, Order, less, more, order, Equal, 
 use Rattle.definitions.specs.Lists.{every}
 use Rattle.definitions.specs.Fields.{blank, line_end, field_bytes, is_digit, skip_blanks, is_numeral, numeral_value, a_field, field_of, digits_of, decimal, right_justified}
 use Rattle.definitions.specs.Written.{written_field}
-use Rattle.definitions.specs.Laws.FieldProofs.{digits_one, digits_more, digit_in}
+use Rattle.definitions.proofs.Laws.FieldProofs.{digits_one, digits_more, digit_in}
 use Rattle.definitions.specs.Laws.FieldBound.{max_field}
 
 -- ---- the digits of a number

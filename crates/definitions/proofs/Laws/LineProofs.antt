@@ -19,8 +19,8 @@ use Rattle.definitions.specs.Judgement.{judge_bounds, judge_size, judge_vertices
 use Rattle.definitions.specs.Fields.{line_end, field_bytes, FieldAnswer, a_field, no_field, six_at, field_at, length_at}
 use Rattle.definitions.specs.Reading.{value, require, read_field, read_fields, judge_line_end, read_line, line_bytes, read_rows, read_piece, piece_bytes, read_pieces, judge_end, Question, target_in, question_of, question_size, judge_asked, read_question, Plan, read_body, read_plan}
 use Rattle.definitions.specs.Written.{FieldWriting, written_field, written_length, written_line, written_piece, question_fields, written, SoundPiece, SoundPlan}
-use Rattle.definitions.specs.Laws.ReadLaws.{value_same, bind_value, require_value, field_value, line_length}
-use Rattle.definitions.specs.Laws.FieldKinds.{Mirrors, plain_fields, length_fields}
+use Rattle.definitions.proofs.Laws.ReadLaws.{value_same, bind_value, require_value, field_value, line_length}
+use Rattle.definitions.proofs.Laws.FieldKinds.{Mirrors, plain_fields, length_fields}
 
 -- ---- what was read from a place on
 

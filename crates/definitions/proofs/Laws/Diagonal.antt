@@ -19,14 +19,14 @@ use Rattle.definitions.specs.Judgement.{judge_bounds, judge_size, judge_vertices
 use Rattle.definitions.specs.Fields.{field_bytes, field_at, length_at}
 use Rattle.definitions.specs.Reading.{Read, refused, value, ◌>>=◌, require, read_field, read_line, line_bytes, read_rows, read_piece, piece_bytes, read_pieces, Question, read_question, Plan, read_body, read_plan, judge_length, read_text}
 use Rattle.definitions.specs.Written.{written_field, written_length, written_line, written_piece, StoppedPiece, DiagonalFirst}
-use Rattle.definitions.specs.Laws.Members.{every_test}
-use Rattle.definitions.specs.Laws.Causes.{test_holds, bounds_in, size_in_lem, rows_short, Short}
-use Rattle.definitions.specs.Laws.ReadLaws.{value_same, bind_value, require_value, line_length}
+use Rattle.definitions.proofs.Laws.Members.{every_test}
+use Rattle.definitions.proofs.Laws.Causes.{test_holds, bounds_in, size_in_lem, rows_short, Short}
+use Rattle.definitions.proofs.Laws.ReadLaws.{value_same, bind_value, require_value, line_length}
 use Rattle.definitions.specs.Laws.FieldBound.{max_field}
-use Rattle.definitions.specs.Laws.FieldKinds.{plain_fields, length_fields}
-use Rattle.definitions.specs.Laws.LineProofs.{stands_both, line_written, rows_read, sized_written, pieces_read, two_numbers}
-use Rattle.definitions.specs.Laws.LineBack.{vertices_small, line_back, rows_back, sized_back, pieces_back}
-use Rattle.definitions.specs.Laws.NeverRefused.{Never, past, upto, either, value_never, then_never, require_is, cause_never, field_never, line_never, question_never}
+use Rattle.definitions.proofs.Laws.FieldKinds.{plain_fields, length_fields}
+use Rattle.definitions.proofs.Laws.LineProofs.{stands_both, line_written, rows_read, sized_written, pieces_read, two_numbers}
+use Rattle.definitions.proofs.Laws.LineBack.{vertices_small, line_back, rows_back, sized_back, pieces_back}
+use Rattle.definitions.proofs.Laws.NeverRefused.{Never, past, upto, either, value_never, then_never, require_is, cause_never, field_never, line_never, question_never}
 
 -- ---- the diagonal
 

@@ -3,7 +3,7 @@ use Rattle.std.specs.Prelude.{◌≡◌, true, ℕ}
 use Rattle.definitions.specs.Lists.{all}
 use Rattle.definitions.specs.Network.{Rectangle}
 use Rattle.definitions.specs.Monge.{Monge, corners, is_monge}
-use Rattle.definitions.specs.Laws.Members.{all_at, all_is}
+use Rattle.definitions.proofs.Laws.Members.{all_at, all_is}
 
 pub is_monge_is : (e : Rectangle) (rows cols : ℕ) → is_monge e rows cols ≡ true → Monge e rows cols
 unfolding is_monge

@@ -4,10 +4,10 @@ use Rattle.std.proofs.Common.{leb-true, le-leb}
 use Rattle.definitions.specs.Limits.{max_text}
 use Rattle.definitions.specs.Reading.{value, require, Plan, judge_length, read_text}
 use Rattle.definitions.specs.Written.{written, SoundPlan}
-use Rattle.definitions.specs.Laws.Causes.{test_holds}
-use Rattle.definitions.specs.Laws.ReadLaws.{bind_value, require_value}
-use Rattle.definitions.specs.Laws.LineProofs.{text_read}
-use Rattle.definitions.specs.Laws.LineBack.{text_back}
+use Rattle.definitions.proofs.Laws.Causes.{test_holds}
+use Rattle.definitions.proofs.Laws.ReadLaws.{bind_value, require_value}
+use Rattle.definitions.proofs.Laws.LineProofs.{text_read}
+use Rattle.definitions.proofs.Laws.LineBack.{text_back}
 
 pub accepted_is : (text : List ℕ) (plan : Plan) → read_text text ≡ value plan → (length text ≤ max_text) × SoundPlan plan × (text ≡ written plan)
 unfolding read_text judge_length

@@ -16,7 +16,7 @@ use Rattle.definitions.specs.Judgement.{judge_source, judge_target}
 use Rattle.definitions.specs.Fields.{line_end, field_bytes, FieldAnswer, six_at, field_at}
 use Rattle.definitions.specs.Reading.{Read, refused, value, ◌>>=◌, require, read_field, read_fields, judge_line_end, read_line, line_bytes, judge_end, question_of, question_size, judge_asked, read_question}
 use Rattle.definitions.specs.Written.{FieldWriting}
-use Rattle.definitions.specs.Laws.FieldKinds.{Mirrors, plain_fields}
+use Rattle.definitions.proofs.Laws.FieldKinds.{Mirrors, plain_fields}
 
 -- not refused by the number k
 abbrev pub Never : {A : Type 0} → ℕ → Read A → Type 0
