@@ -22,12 +22,12 @@ use Rattle.definitions.specs.Blocks.{blocks}
 use Rattle.definitions.specs.Labelling.{State, labelling, route_to}
 use Rattle.definitions.specs.Judgement.{judge_piece, judge_target}
 use Rattle.definitions.specs.Reading.{Read, refused, value, require, judge_asked, Plan, read_plan, judge_length, read_text}
-use Rattle.definitions.specs.Laws.LineProofs.{text_read}
+use Rattle.definitions.proofs.Laws.LineProofs.{text_read}
 use Rattle.definitions.specs.Text.{sizes_of, vertices_of, lengths_of}
 use Rattle.definitions.specs.Entries.{AfterRead, has_places, judge_buffers, arcs_of, judge_lent, read_refusal, held_target, after_read, reading, refusal_line, state_listing, route_listing, question_listing, plan_listing, listing, listing_places, AfterListing, write_listing}
-use Rattle.definitions.specs.Laws.Members.{every_imp}
-use Rattle.definitions.specs.Laws.Causes.{bounds_in, target_in_lem}
-use Rattle.definitions.specs.Laws.ReadLaws.{bind_value, require_value}
+use Rattle.definitions.proofs.Laws.Members.{every_imp}
+use Rattle.definitions.proofs.Laws.Causes.{bounds_in, target_in_lem}
+use Rattle.definitions.proofs.Laws.ReadLaws.{bind_value, require_value}
 use Rattle.definitions.specs.Written.{SoundPiece, SoundPlan}
 use Rattle.logic.specs.Tests.{Truth, holds, fails, truth}
 use Rattle.labelling_laws.specs.Acceptance.{Accepted}

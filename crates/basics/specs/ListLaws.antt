@@ -14,7 +14,7 @@ use native.Mathlib.Omega.{arith}
 use Rattle.std.proofs.lemmas.Bool.{not-true}
 use Rattle.std.proofs.lemmas.List.{length-replicate}
 use Rattle.definitions.specs.Lists.{all, count, Every, mem, different, total, padded}
-use Rattle.definitions.specs.Laws.Members.{all_at}
+use Rattle.definitions.proofs.Laws.Members.{all_at}
 use Rattle.logic.specs.Tests.{clash, and_both, and_left, and_right, or_left, or_right, Truth, holds, fails, truth, Equal, equal, differ, equality}
 
 -- ---- a computed test

@@ -10,8 +10,8 @@ use Rattle.std.proofs.Math.Bool.{or-true, or_assoc}
 use Rattle.definitions.specs.Lists.{Every}
 use Rattle.definitions.specs.Best.{Best}
 use Rattle.definitions.specs.Intervals.{Interval, runs, same_interval, is_kept, Distinct, count_new}
-use Rattle.definitions.specs.Laws.OrderLaws.{rising_firsts, firsts_distinct}
-use Rattle.definitions.specs.Laws.RunProofs.{same_interval_refl, same_interval_is, runs_rising}
+use Rattle.definitions.proofs.Laws.OrderLaws.{rising_firsts, firsts_distinct}
+use Rattle.definitions.proofs.Laws.RunProofs.{same_interval_refl, same_interval_is, runs_rising}
 use Rattle.logic.specs.Tests.{clash, Truth, holds, fails, truth}
 
 same_interval_sym : (v u : Interval) → same_interval v u ≡ false → same_interval u v ≡ false

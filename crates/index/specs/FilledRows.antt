@@ -12,7 +12,8 @@ use Rattle.std.proofs.Math.Dec.{leb}
 use Rattle.std.proofs.Math.ListN.{get_or-eq_default}
 use Rattle.definitions.specs.Limits.{row_places}
 use Rattle.definitions.specs.Best.{by}
-use Rattle.definitions.specs.Index.{IsLeast, least_in_lem, column_of, ask}
+use Rattle.definitions.specs.Index.{IsLeast, column_of, ask}
+use Rattle.definitions.proofs.Index.{least_in_lem}
 use Rattle.logic.specs.Tests.{Order, less, more, order, Truth, holds, fails, truth, and_left, and_right}
 use Rattle.index.specs.HeldRows.{lengths_in, held_from, HeldAt, filled_row, fill_rows, filled_index, Indexed, least_column}
 use Rattle.index.specs.StretchHalves.{least_some}

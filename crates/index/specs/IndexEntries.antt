@@ -14,10 +14,11 @@ use Rattle.definitions.specs.declared.Least.{Least}
 use Rattle.definitions.specs.declared.Least.TheVariants.{Column, Nothing, Refused}
 use Rattle.definitions.specs.Limits.{row_places, rectangle_places, index_row_places, index_places}
 use Rattle.definitions.specs.Best.{by}
-use Rattle.definitions.specs.Index.{IsLeast, least_in_lem, index_of, ask, least_found}
+use Rattle.definitions.specs.Index.{IsLeast, index_of, ask, least_found}
+use Rattle.definitions.proofs.Index.{least_in_lem}
 use Rattle.definitions.specs.Entries.{has_places, rectangle_of, judge_sides, judge_rectangle, AfterIndex, judge_index_buffers, judge_index, build_index, judge_question, ask_index}
 use Rattle.definitions.specs.PlainPromises.{PlainLeast}
-use Rattle.definitions.specs.Laws.Causes.{refused, passed, last, no_cause, test_holds}
+use Rattle.definitions.proofs.Laws.Causes.{refused, passed, last, no_cause, test_holds}
 use Rattle.logic.specs.Tests.{Order, less, more, order, and_left, and_right, Equal, equal, differ, equality}
 use Rattle.basics.specs.Sequences.{get_or_each}
 use Rattle.rectangles.specs.RectangleJudgement.{Sides, sides_in}

@@ -17,7 +17,7 @@ use borrow.Author.Tests.{lt-ltb, le-ltb, le-leb, lt-leb, leb-true, leb-false}
 use Rattle.std.proofs.Math.ListN.{get_or, length}
 use Rattle.definitions.specs.Best.{Best, nobody, by, lesser, least_from}
 use Rattle.definitions.specs.Index.{column_of, least_in, in_stretch, held_in, ask}
-use Rattle.definitions.specs.Laws.LeastLaws.{least_from_same}
+use Rattle.definitions.proofs.Laws.LeastLaws.{least_from_same}
 use Rattle.logic.specs.Tests.{Order, less, more, order, Truth, holds, fails, truth, and_left, and_right}
 use Rattle.heap_laws.specs.Lesser.{lesser_nobody, lesser_assoc}
 use Rattle.index.specs.HeldRows.{held_from, HeldAt}

@@ -10,7 +10,7 @@ use Rattle.std.proofs.lemmas.List.{map-append, length-map}
 use Rattle.definitions.specs.Blocks.{splits}
 use Rattle.definitions.specs.Best.{Best, nobody, by, lesser, placed, least_from}
 use Rattle.definitions.specs.Index.{column_of, least_in, held_at}
-use Rattle.definitions.specs.Laws.LeastLaws.{Found, found_is, least_from_same}
+use Rattle.definitions.proofs.Laws.LeastLaws.{Found, found_is, least_from_same}
 use Rattle.logic.specs.Tests.{Order, less, more, order}
 use Rattle.heap_laws.specs.Lesser.{lesser_assoc}
 use Rattle.index.specs.HeldRows.{held_from}

@@ -18,9 +18,9 @@ use Rattle.definitions.specs.Lists.{total, Every}
 use Rattle.definitions.specs.Network.{RouteArc}
 use Rattle.definitions.specs.Blocks.{Block}
 use Rattle.definitions.specs.Best.{Best, nobody, by, Lowest}
-use Rattle.definitions.specs.Laws.LeastLaws.{found_is}
+use Rattle.definitions.proofs.Laws.LeastLaws.{found_is}
 use Rattle.definitions.specs.Labelling.{BlockState, extraction, fresh_block, apply, least_of, activate_vertex, settled_at, State, label_of, settle_as, settle, no_block_state, chosen, place_in, extract_from, advance, steps, start, columns, labelling, reached, extractions, insertions}
-use Rattle.definitions.specs.Laws.Members.{every_imp}
+use Rattle.definitions.proofs.Laws.Members.{every_imp}
 use Rattle.basics.specs.ListLaws.{every_map, map_same, total_set, total_le, Different}
 use Rattle.labelling_laws.specs.Labels.{label_new, labelled}
 use Rattle.labelling_laws.specs.OneBlock.{Fit, fresh_fine, Good, Welcome, welcome, activate_extracted, extract_length, extracted_bound, inserted_most, inserted_bound}

@@ -13,7 +13,7 @@ use Rattle.definitions.specs.Lists.{up_from, Every}
 use Rattle.definitions.specs.Network.{RouteArc}
 use Rattle.definitions.specs.Blocks.{Block}
 use Rattle.definitions.specs.Best.{nobody, by, Lowest}
-use Rattle.definitions.specs.Laws.LeastLaws.{Found, found_is}
+use Rattle.definitions.proofs.Laws.LeastLaws.{Found, found_is}
 use Rattle.definitions.specs.Model.{available, intervals}
 use Rattle.definitions.specs.Labelling.{BlockState, activation, extraction, fresh_block, apply, least_of, place_of, activate_at, activate_vertex, settled_at, State, label_of, settle_as, settle, no_block_state, chosen, place_in, arc_into, extract_from, advance, start, held_label, labels}
 use Rattle.logic.specs.Tests.{Equal, equal, differ, equality}

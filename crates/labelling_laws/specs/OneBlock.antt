@@ -20,7 +20,7 @@ use Rattle.definitions.specs.Network.{Rectangle, RouteArc}
 use Rattle.definitions.specs.Monge.{Monge, closed}
 use Rattle.definitions.specs.Blocks.{Block}
 use Rattle.definitions.specs.Best.{Best, nobody, by, lesser, least, least_from, Lowest}
-use Rattle.definitions.specs.Laws.LeastLaws.{found_is}
+use Rattle.definitions.proofs.Laws.LeastLaws.{found_is}
 use Rattle.definitions.specs.Model.{Activation, Model, through, parent, available, is_activated, judge, step, activate, extract, Trace, extend}
 use Rattle.definitions.specs.Labelling.{BlockState, activation, extraction, fresh_block, apply, least_of, place_of, activate_at, activate_vertex, Settled, settled_at, label_of}
 use Rattle.logic.specs.Tests.{clash, Truth, holds, fails, truth, Equal, equal, differ, equality}

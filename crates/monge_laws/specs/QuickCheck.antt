@@ -13,7 +13,7 @@ use Rattle.definitions.specs.Metres.{IsNumber}
 use Rattle.definitions.specs.Lists.{all}
 use Rattle.definitions.specs.Network.{Rectangle}
 use Rattle.definitions.specs.Monge.{Monge}
-use Rattle.definitions.specs.Laws.Members.{all_at, all_is}
+use Rattle.definitions.proofs.Laws.Members.{all_at, all_is}
 use Rattle.logic.specs.Tests.{and_left, and_right, and_both}
 use Rattle.monge_laws.specs.Inequality.{corners_is, corners_from}
 

@@ -18,7 +18,7 @@ use Rattle.definitions.specs.Lists.{all, every, total, up_from, padded, Every}
 use Rattle.definitions.specs.Network.{entry, no_piece}
 use Rattle.definitions.specs.Blocks.{splits, splits_of, windows, windows_of, no_block, block_of, blocks}
 use Rattle.definitions.specs.Judgement.{piece_at, pieces_of}
-use Rattle.definitions.specs.Laws.Members.{every_is, all_at}
+use Rattle.definitions.proofs.Laws.Members.{every_is, all_at}
 use Rattle.logic.specs.Tests.{split_at}
 use Rattle.basics.specs.ListLaws.{every_at, length_padded}
 use Rattle.splits.specs.Windows.{Inside, windows_inside}

@@ -11,7 +11,7 @@ use Rattle.std.proofs.Common.{sym, ◌∙◌, subst, append-nil, append_assoc, l
 use Rattle.std.proofs.Math.ListN.{get_or-append}
 use Rattle.definitions.specs.Lists.{Every}
 use Rattle.definitions.specs.Blocks.{Split, splits, splits_of, Window, windows, windows_of}
-use Rattle.definitions.specs.Laws.Members.{every_imp}
+use Rattle.definitions.proofs.Laws.Members.{every_imp}
 use Rattle.logic.specs.Tests.{Order, less, more, order}
 use Rattle.basics.specs.ListLaws.{every_at, every_append}
 use Rattle.preparation.specs.Numbers.{length_windows, windows_append}

@@ -16,8 +16,8 @@ use Rattle.definitions.specs.Lists.{all, within, first_cause}
 use Rattle.definitions.specs.Metres.{IsNumber, is_length}
 use Rattle.definitions.specs.Monge.{is_monge}
 use Rattle.definitions.specs.Entries.{rectangle_of, judge_sides, judge_rectangle}
-use Rattle.definitions.specs.Laws.Causes.{refused, last, no_cause, test_holds, within_is, length_short}
-use Rattle.definitions.specs.Laws.Members.{all_at}
+use Rattle.definitions.proofs.Laws.Causes.{refused, last, no_cause, test_holds, within_is, length_short}
+use Rattle.definitions.proofs.Laws.Members.{all_at}
 use Rattle.logic.specs.Tests.{and_left, and_right, Equal, equal, differ, equality}
 
 unfoldable pub row_fits : List ℕ → ℕ → ℕ → Bool

@@ -22,9 +22,9 @@ use Rattle.definitions.specs.Judgement.{judge_size, judge_vertices, judge_blocks
 use Rattle.definitions.specs.Fields.{field_bytes, field_of, field_at}
 use Rattle.definitions.specs.Reading.{refused, value, require, read_field, read_line, line_bytes, read_rows, read_piece, piece_bytes, read_pieces}
 use Rattle.definitions.specs.Text.{sizes_of, vertices_of, table_of, lengths_of}
-use Rattle.definitions.specs.Laws.Members.{every_imp}
-use Rattle.definitions.specs.Laws.Causes.{size_in_lem}
-use Rattle.definitions.specs.Laws.ReadLaws.{value_same, bind_value, require_value}
+use Rattle.definitions.proofs.Laws.Members.{every_imp}
+use Rattle.definitions.proofs.Laws.Causes.{size_in_lem}
+use Rattle.definitions.proofs.Laws.ReadLaws.{value_same, bind_value, require_value}
 use Rattle.judgements.specs.LentPieces.{judge_table}
 use Rattle.judgements.specs.PieceJudgement.{table_blocks}
 use Rattle.monge.specs.Matrix.{rows_in}

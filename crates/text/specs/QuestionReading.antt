@@ -19,10 +19,10 @@ use Rattle.definitions.specs.Judgement.{judge_source, judge_target}
 use Rattle.definitions.specs.Fields.{line_end, field_bytes, field_at}
 use Rattle.definitions.specs.Reading.{Read, value, ◌>>=◌, require, judge_line_end, read_line, line_bytes, judge_end, Question, target_in, question_of, question_size, judge_asked, read_question}
 use Rattle.definitions.specs.Entries.{held_target}
-use Rattle.definitions.specs.Laws.Causes.{no_cause, refused, passed, last}
+use Rattle.definitions.proofs.Laws.Causes.{no_cause, refused, passed, last}
 use Rattle.definitions.specs.Laws.FieldBound.{max_field}
-use Rattle.definitions.specs.Laws.FieldKinds.{plain_fields}
-use Rattle.definitions.specs.Laws.LineProofs.{line_written}
+use Rattle.definitions.proofs.Laws.FieldKinds.{plain_fields}
+use Rattle.definitions.proofs.Laws.LineProofs.{line_written}
 use Rattle.text.specs.Outcomes.{Came}
 use Rattle.text.specs.ReadSteps.{require_two}
 use Rattle.text.specs.Returns.{came_out, came_go}

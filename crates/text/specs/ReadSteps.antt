@@ -17,9 +17,9 @@ use Rattle.definitions.specs.Network.{Piece}
 use Rattle.definitions.specs.Judgement.{judge_size, judge_vertices, judge_row, judge_blocks}
 use Rattle.definitions.specs.Fields.{line_end, field_bytes, FieldAnswer, a_field, no_field, field_of, six_at, field_at, length_at}
 use Rattle.definitions.specs.Reading.{require, read_rows, read_piece, piece_bytes, read_pieces, FieldReading, Read, refused, value, ◌>>=◌, read_field, read_fields, judge_line_end, read_line, line_bytes}
-use Rattle.definitions.specs.Laws.Causes.{refused as first, last}
-use Rattle.definitions.specs.Laws.ReadLaws.{bind_value, require_value}
-use Rattle.definitions.specs.Laws.FieldKinds.{Agrees, agrees_at_lem}
+use Rattle.definitions.proofs.Laws.Causes.{refused as first, last}
+use Rattle.definitions.proofs.Laws.ReadLaws.{bind_value, require_value}
+use Rattle.definitions.proofs.Laws.FieldKinds.{Agrees, agrees_at_lem}
 
 -- what is in hand, and then what is read
 unfoldable pub after : {A : Type 0} → List A → Read (List A) → Read (List A)

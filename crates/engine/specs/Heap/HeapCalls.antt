@@ -22,11 +22,11 @@ use Rattle.definitions.specs.Monge.{is_closed}
 use Rattle.definitions.specs.Best.{Best, nobody, by, lesser, least_from}
 use Rattle.definitions.specs.Intervals.{count_new}
 use Rattle.definitions.specs.Model.{Model, parent, available, is_activated, activate, extract, extraction_of, answer_of, intervals, least_left, Listed, Reached}
-use Rattle.definitions.specs.Laws.LeastLaws.{least_lowest, least_from_same}
+use Rattle.definitions.proofs.Laws.LeastLaws.{least_lowest, least_from_same}
 use Rattle.definitions.specs.Labelling.{activation, extraction, place_in}
 use Rattle.definitions.specs.HeapWords.{count_word, reached_word, heap_words, count_of, reached_of, mark_at, parent_at, last_at, best_sum_at, span, kept, listed_at}
 use Rattle.definitions.specs.HeldModel.{lent_entry, is_reached, Holds}
-use Rattle.definitions.specs.Laws.RunProofs.{runs_none, runs_length}
+use Rattle.definitions.proofs.Laws.RunProofs.{runs_none, runs_length}
 use Rattle.definitions.specs.declared.Extraction.{Extraction}
 use Rattle.definitions.specs.declared.Extraction.TheVariants.{Column, Nothing}
 use Rattle.basics.specs.ListLaws.{every_snoc, count_same, count_some, count_full}

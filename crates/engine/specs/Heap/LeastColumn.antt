@@ -13,7 +13,7 @@ use Rattle.definitions.specs.HeapWords.{count_of, first_at, last_at, best_column
 use Rattle.definitions.specs.HeldModel.{lent_entry, Holds}
 use Rattle.definitions.specs.Limits.{below}
 use Rattle.definitions.specs.Best.{Best, nobody, by, lesser, least}
-use Rattle.definitions.specs.Laws.LeastLaws.{least_lowest}
+use Rattle.definitions.proofs.Laws.LeastLaws.{least_lowest}
 use Rattle.definitions.specs.Model.{Model, available, least_left, best_in}
 use Rattle.heap_laws.specs.Lesser.{lesser_assoc}
 use Rattle.heap_laws.specs.Bests.{least_of_bests}

@@ -14,7 +14,7 @@ use Rattle.definitions.specs.Intervals.{Interval, interval, first_column, last_c
 use Rattle.definitions.specs.Model.{Listed}
 use Rattle.definitions.specs.Index.{IsLeast}
 use Rattle.definitions.specs.HeldModel.{lent_entry}
-use Rattle.definitions.specs.Laws.LeastLaws.{Found, found_is}
+use Rattle.definitions.proofs.Laws.LeastLaws.{Found, found_is}
 use Rattle.logic.specs.Tests.{split_at}
 use Rattle.index.specs.HeldRows.{Indexed}
 use Rattle.engine.specs.Heap.WordLaws.{word_end}

@@ -25,8 +25,8 @@ use Rattle.definitions.specs.Intervals.{Interval, interval, runs}
 use Rattle.definitions.specs.Model.{Listed, through}
 use Rattle.definitions.specs.HeapWords.{heap_words, best_column_at, best_sum_at, interval_at, span, listed_at}
 use Rattle.definitions.specs.HeldModel.{lent_entry}
-use Rattle.definitions.specs.Laws.LeastLaws.{Found, found_is, least_from_same}
-use Rattle.definitions.specs.Laws.RunProofs.{runs_none, tag, lookup, lookup_runs, runs_rising, IsRun, Longest, runs_longest}
+use Rattle.definitions.proofs.Laws.LeastLaws.{Found, found_is, least_from_same}
+use Rattle.definitions.proofs.Laws.RunProofs.{runs_none, tag, lookup, lookup_runs, runs_rising, IsRun, Longest, runs_longest}
 use Rattle.logic.specs.Tests.{clash, and_left, and_right, split_at, Truth, holds, fails, truth, Equal, equal, differ, equality, Order, less, more, order}
 use Rattle.heap_laws.specs.Lesser.{lesser_nobody}
 use Rattle.heap_laws.specs.Parents.{through_some, through_none}

@@ -20,7 +20,7 @@ use Rattle.definitions.specs.Blocks.{Block, no_block}
 use Rattle.definitions.specs.Best.{Best, nobody, by, lesser, least_from}
 use Rattle.definitions.specs.Model.{Model, available, judge, activate, extract, extraction_of, Answer, answer_of, Call, Trace, extend}
 use Rattle.definitions.specs.Labelling.{BlockState, no_block_state, activation, extraction, apply, least_of}
-use Rattle.definitions.specs.Laws.LeastLaws.{least_lowest}
+use Rattle.definitions.proofs.Laws.LeastLaws.{least_lowest}
 use Rattle.logic.specs.Tests.{Order, less, more, order, Equal, equal, differ, equality}
 use Rattle.heap_laws.specs.Sound.{Sound}
 use Rattle.heap_laws.specs.Bests.{SameSum}

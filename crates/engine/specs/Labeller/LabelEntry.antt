@@ -19,7 +19,7 @@ use Rattle.definitions.specs.Network.{Piece}
 use Rattle.definitions.specs.Blocks.{blocks}
 use Rattle.definitions.specs.Labelling.{labelling, labels}
 use Rattle.definitions.specs.Judgement.{judge_bounds, judge_source, judge_piece, piece_at, pieces_of, judge_from, judge_network}
-use Rattle.definitions.specs.Laws.Causes.{passed, no_cause, test_holds, bounds_in}
+use Rattle.definitions.proofs.Laws.Causes.{passed, no_cause, test_holds, bounds_in}
 use Rattle.basics.specs.Buffers.{buffers_are}
 use Rattle.logic.specs.Tests.{split_at, Equal, equal, differ, equality}
 use Rattle.preparation.specs.BlockIndex.{no_index, filled_blocks}

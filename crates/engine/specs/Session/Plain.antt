@@ -5,7 +5,8 @@ use Rattle.std.proofs.Math.Path.{ap}
 use Rattle.definitions.specs.PlainPromises.{PlainSession}
 use Rattle.definitions.specs.declared.SessionAnswer.{SessionAnswer}
 use Rattle.definitions.specs.Lists.{padded}
-use Rattle.definitions.specs.Model.{Model, intervals, first_columns_rise, in_order_already, with_best, HasBest, each_has_best, Call, trace}
+use Rattle.definitions.specs.Model.{Model, intervals, with_best, HasBest, Call, trace}
+use Rattle.definitions.proofs.Model.{first_columns_rise, in_order_already, each_has_best}
 use Rattle.definitions.specs.Entries.{AfterSession, rectangle_of, judge_session, calls_of, answers_of, answers_in, intervals_of, session}
 use Rattle.basics.specs.ListLaws.{every_map, map_back}
 use Rattle.logic.specs.Tests.{Equal, equal, differ, equality}

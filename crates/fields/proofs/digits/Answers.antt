@@ -7,7 +7,7 @@ use borrow.Author.Rules.{rules}
 use lib.ListN.{drop_of_length-le}
 use Rattle.definitions.specs.Lists.{every}
 use Rattle.definitions.specs.Fields.{numeral_value}
-use Rattle.definitions.specs.Laws.FieldBound.{digit_bound, digit_room}
+use Rattle.definitions.proofs.Laws.FieldBound.{digit_bound, digit_room}
 use Rattle.fields.specs.SixColumns.{digits_after, digits_more, digits_low, digits_high}
 use Rattle.fields.proofs.digits.Goals as goal
 

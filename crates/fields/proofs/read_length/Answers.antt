@@ -1,7 +1,7 @@
 -- `fields::read_length` meets its contract: the number that the field says, else what its bytes say that are none.
 use mathlib.Core.Path.{sym, ap, ◌∙◌}
 use Rattle.definitions.specs.Fields.{length_of, field_answer}
-use Rattle.definitions.specs.Laws.FieldKinds.{number_length, agrees_at_lem}
+use Rattle.definitions.proofs.Laws.FieldKinds.{number_length, agrees_at_lem}
 use Rattle.fields.specs.SixColumns.{length_dash}
 use Rattle.fields.proofs.read_length.Goals as goal
 

@@ -14,7 +14,7 @@ use Rattle.definitions.specs.Network.{size_of}
 use Rattle.definitions.specs.Blocks.{windows_of}
 use Rattle.definitions.specs.Judgement.{judge_size, judge_blocks}
 use Rattle.definitions.specs.Entries.{has_places}
-use Rattle.definitions.specs.Laws.Causes.{refused, passed, last, size_in_lem}
+use Rattle.definitions.proofs.Laws.Causes.{refused, passed, last, size_in_lem}
 use Rattle.basics.specs.Sequences.{length_up_from}
 use Rattle.monge.specs.Matrix.{lies_in, passes_in, table_monge_in}
 use Rattle.judgements.specs.LentPieces.{table_in, judge_table}

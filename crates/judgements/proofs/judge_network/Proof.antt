@@ -7,7 +7,7 @@ use borrow.Author.Rules.{rules}
 use lib.ListN.{length}
 use Rattle.definitions.specs.Judgement.{judge_bounds, judge_from, judge_network}
 use Rattle.definitions.specs.Entries.{judge_buffers, judge_lent}
-use Rattle.definitions.specs.Laws.Causes.{refused, passed, last, bounds_in}
+use Rattle.definitions.proofs.Laws.Causes.{refused, passed, last, bounds_in}
 use Rattle.basics.specs.Buffers.{buffers_are}
 use Rattle.judgements.proofs.judge_network.Statement.{statement}
 use Rattle.judgements.proofs.judge_network.Tie as tie

@@ -14,7 +14,7 @@ use Rattle.definitions.specs.Limits.{row_places, table_places}
 use Rattle.definitions.specs.Network.{size_of}
 use Rattle.definitions.specs.Judgement.{judge_size, judge_vertices, judge_rows, judge_piece}
 use Rattle.definitions.specs.Entries.{has_places}
-use Rattle.definitions.specs.Laws.Causes.{refused, passed, last, size_in_lem}
+use Rattle.definitions.proofs.Laws.Causes.{refused, passed, last, size_in_lem}
 use Rattle.monge.specs.Matrix.{rows_in}
 use Rattle.judgements.specs.LentPieces.{piece_in, judge_piece_in, judge_table}
 use Rattle.judgements.specs.PieceJudgement.{table_blocks}

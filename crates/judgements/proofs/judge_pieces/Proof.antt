@@ -14,7 +14,7 @@ use Rattle.definitions.specs.Limits.{row_places, table_places}
 use Rattle.definitions.specs.Lists.{first_cause}
 use Rattle.definitions.specs.Judgement.{judge_piece, judge_from, piece_at}
 use Rattle.definitions.specs.Entries.{has_places}
-use Rattle.definitions.specs.Laws.Causes.{refused, passed, last}
+use Rattle.definitions.proofs.Laws.Causes.{refused, passed, last}
 use Rattle.judgements.specs.LentPieces.{judge_piece_in}
 use Rattle.judgements.specs.PieceJudgement.{piece_lent}
 use Rattle.judgements.proofs.judge_pieces.Statement.{statement}

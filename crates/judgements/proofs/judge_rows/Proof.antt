@@ -11,7 +11,7 @@ use lib.Seq.{drop-cons}
 use Rattle.definitions.specs.Limits.{row_places}
 use Rattle.definitions.specs.Lists.{first_cause}
 use Rattle.definitions.specs.Judgement.{judge_row, judge_rows}
-use Rattle.definitions.specs.Laws.Causes.{refused, passed, last}
+use Rattle.definitions.proofs.Laws.Causes.{refused, passed, last}
 use Rattle.monge.specs.PieceTables.{length_rows, row_in_lem}
 use Rattle.monge.specs.Matrix.{rows_in}
 use Rattle.judgements.proofs.judge_rows.Statement.{statement}

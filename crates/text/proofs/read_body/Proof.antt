@@ -2,7 +2,7 @@
 use mathlib.Core.Path.{◌≡◌, sym, ◌∙◌}
 use borrow.Author.Rules.{rules}
 use Rattle.definitions.specs.Judgement.{judge_bounds}
-use Rattle.definitions.specs.Laws.Causes.{bounds_in}
+use Rattle.definitions.proofs.Laws.Causes.{bounds_in}
 use Rattle.text.specs.Plans.{body_bounds, body_pieces, body_question, body_done}
 use Rattle.text.proofs.read_body.Statement.{statement}
 use Rattle.text.proofs.read_body.Tie as tie

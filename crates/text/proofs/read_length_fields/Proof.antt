@@ -7,7 +7,7 @@ use borrow.Author.Rules.{rules}
 use lib.ListN.{length}
 use Rattle.definitions.specs.Fields.{field_bytes, a_field, length_of, length_at, length_answer}
 use Rattle.definitions.specs.Reading.{read_fields}
-use Rattle.definitions.specs.Laws.FieldKinds.{number_length}
+use Rattle.definitions.proofs.Laws.FieldKinds.{number_length}
 use Rattle.text.specs.Outcomes.{Came}
 use Rattle.text.specs.ReadSteps.{FieldsGoing, fields_next}
 use Rattle.text.specs.Returns.{fields_broken, fields_ended}

@@ -5,7 +5,7 @@ use Prim.Native.Nat.{ℕ, ◌≤◌}
 use native.Mathlib.Omega.{arith}
 use lib.ListN.{length, take}
 use lib.Seq.{length-take-le}
-use Rattle.definitions.specs.Laws.LineProofs.{question_size_lem}
+use Rattle.definitions.proofs.Laws.LineProofs.{question_size_lem}
 use Rattle.text.specs.QuestionReading.{question_sized}
 use borrow.Author.Rules.{rules}
 use Rattle.text.proofs.read_question.Statement.{statement}

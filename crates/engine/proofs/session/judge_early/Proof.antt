@@ -4,7 +4,7 @@ use borrow.Author.Rules.{rules}
 use borrow.Author.Tests.{not-true, not-false, le-leb, lt-leb}
 use Rattle.definitions.specs.Lists.{first_cause}
 use Rattle.definitions.specs.Limits.{max_calls}
-use Rattle.definitions.specs.Laws.Causes.{last}
+use Rattle.definitions.proofs.Laws.Causes.{last}
 use Rattle.engine.specs.Session.Judged.{judge_early}
 use Rattle.engine.proofs.session.judge_early.Statement.{statement}
 use Rattle.engine.proofs.session.judge_early.Tie as tie
