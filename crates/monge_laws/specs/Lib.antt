@@ -1,7 +1,7 @@
--- Laws of the inequality that a block is checked for.
---   Inequality   what it says of four entries, and of two rows with labels
---   Neighbours   the check by neighbours, linear in the table, is the check of all pairs
---   QuickCheck   a quicker check that numbers pass, and whatever passes it is Monge
+-- What the laws of the inequality that a block is checked for speak of. The laws are in proofs/.
+--   Inequality   what the inequality says of four entries
+--   Neighbours   the check by neighbours, linear in the table
+--   QuickCheck   a quicker check
 --   ReversedColumns   the check by neighbours where columns are reversed
 pub mod Inequality
 pub mod Neighbours

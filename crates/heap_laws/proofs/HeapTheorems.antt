@@ -1,4 +1,5 @@
--- The main theorems about the heap of one block, each restated in full; the proofs cite the parts.
+-- The main theorems about the heap of one block, each restated in full; the proofs cite the parts. Two stand in files of their own and are passed on
+-- from here: won_one_range in `WonRange`, activation_inserts_lem in `ActivationInserts`.
 -- They hold for Monge rectangles of any size, so the limit of 24 rows and columns is not needed, and for every list ks of calls of any
 -- length and any kind, from the fresh model on. M1 to M8 number the steps of the argument, here and in the other files.
 --   the rectangle    monge_test fast_check all_pairs one_crossing
@@ -21,27 +22,31 @@ use Rattle.definitions.specs.Network.{Rectangle}
 use Rattle.definitions.specs.Monge.{Monge, is_monge, is_closed, closed}
 use Rattle.definitions.specs.Best.{Best, by, lesser, least, Lowest}
 use Rattle.definitions.specs.Intervals.{Interval, runs, Distinct, Rising, count_new}
-use Rattle.definitions.specs.Model.{LeastLeft, through, parent, available, extract, Model, fresh, intervals, least_left, best_in, with_best, HasBest, Call, extracts, coded, nothing_left, judge, step, Trace, extend, trace, AllExtractLeast, allowances}
-use Rattle.definitions.proofs.Model.{intervals_rise, each_has_best}
-use Rattle.definitions.proofs.Laws.MongeLaws.{is_monge_is, is_monge_from}
-use Rattle.definitions.proofs.Laws.RunProofs.{lookup, runs_length}
-use Rattle.monge_laws.specs.Inequality as inequality
-use Rattle.monge_laws.specs.Neighbours.{is_monge_fast, fast_same}
-use Rattle.heap_laws.specs.Lesser.{from_is, up_to_is}
-use Rattle.heap_laws.specs.Parents as parents
-use Rattle.heap_laws.specs.Won.{won, won_between, won_later, won_earlier, Range, SomeRange, range}
-use Rattle.heap_laws.specs.Sound.{trace_sound, step_floor, won_available}
-use Rattle.heap_laws.specs.ModelCalls.{Activates, trace_snoc, trace_activate}
-use Rattle.heap_laws.specs.Counting.{runs_distinct}
+use Rattle.definitions.specs.Model.{LeastLeft, through, parent, available, extract, Model, fresh, intervals, intervals_rise, least_left, best_in, with_best, HasBest, each_has_best, Call, extracts, coded, nothing_left, judge, step, Trace, extend, trace, AllExtractLeast, allowances}
+use Rattle.definitions.specs.Laws.MongeLaws.{is_monge_is, is_monge_from}
+use Rattle.definitions.specs.Laws.RunProofs.{lookup, runs_length}
+use Rattle.monge_laws.proofs.Inequality as inequality
+use Rattle.monge_laws.specs.Neighbours.{is_monge_fast}
+use Rattle.monge_laws.proofs.Neighbours.{fast_same}
+use Rattle.heap_laws.proofs.Lesser.{from_is, up_to_is}
+use Rattle.heap_laws.proofs.Parents as parents
+use Rattle.heap_laws.specs.Won.{won, Range}
+use Rattle.heap_laws.proofs.Won.{won_later, won_earlier}
+use Rattle.heap_laws.proofs.Sound.{trace_sound, step_floor}
+use Rattle.heap_laws.specs.ModelCalls.{Activates}
+use Rattle.heap_laws.proofs.ModelCalls.{trace_snoc, trace_activate}
+use Rattle.heap_laws.proofs.Counting.{runs_distinct}
 use Rattle.heap_laws.specs.Edits.{before, from}
-use Rattle.heap_laws.specs.Activate as activation
-use Rattle.heap_laws.specs.Extract as extraction
-use Rattle.heap_laws.specs.Bests as bests
-use Rattle.heap_laws.specs.TraceCounts as traces
-use Rattle.heap_laws.specs.AllCalls.{trace_allowed, trace_extractions}
-use Rattle.heap_laws.specs.ColumnParents as columns
+use Rattle.heap_laws.proofs.Activate as activation
+use Rattle.heap_laws.proofs.Extract as extraction
+use Rattle.heap_laws.proofs.Bests as bests
+use Rattle.heap_laws.proofs.TraceCounts as traces
+use Rattle.heap_laws.proofs.AllCalls.{trace_allowed, trace_extractions}
+use Rattle.heap_laws.proofs.ColumnParents as columns
 use Rattle.heap_laws.specs.ColumnParents.{Beside}
-use Rattle.heap_laws.specs.Agree as agree
+use Rattle.heap_laws.proofs.Agree as agree
+pub use Rattle.heap_laws.proofs.WonRange.{won_one_range}
+pub use Rattle.heap_laws.proofs.ActivationInserts.{activation_inserts_lem}
 
 -- ---- the rectangle
 
@@ -101,17 +106,8 @@ module _ (e : Rectangle) (rows cols : ℕ) (ks : List Call) where
   pub parents_rise : Monge e rows cols → (c d p s q t : ℕ) → c ≤ d → d < cols → parent e model.activated c ≡ by p s → parent e model.activated d ≡ by q t → p ≤ q
   parents_rise ok c d p s q t cd hd x y = parents.parents_rise e rows cols ok model.activated (trace_sound e rows cols ks).in_rows c d cd hd p s q t x y
 
-  -- M4. The columns where a new row has a path and is strictly below every activated row that has one are a range, less its closed
-  -- columns: beating a lower row goes on to later columns, beating a higher one to earlier columns; and if no activated row has a path
-  -- at a column between, then any row that has one there forces one of the new row. Its label is at least the floor, so by M5 none of
-  -- them is extracted.
-  pub won_one_range : Monge e rows cols → (r v : ℕ) → r < rows → model.floor ≤ v
-      → SomeRange (won e model.activated r v) (is_closed e rows) cols × ((c : ℕ) → won e model.activated r v c ≡ true → mem c model.extracted ≡ false)
-  won_one_range ok r v hr high =
-      let g = trace_sound e rows cols ks in
-      (range (won e model.activated r v) (is_closed e rows) cols (won_between e rows cols ok model.activated g.in_rows r v hr), λ c h. won_available e rows cols model g r v c high h)
-
-  -- What the search for them rests on. Of the columns with a parent below the row it wins the later ones, of those with a parent above it the earlier
+  -- M4 is won_one_range: the columns that a new row wins are a range, less its closed columns, and none of them is extracted. What the search for
+  -- them rests on. Of the columns with a parent below the row it wins the later ones, of those with a parent above it the earlier
   -- ones.
   pub won_owned : Monge e rows cols → (r v : ℕ) → r < rows → (c d p s : ℕ) → c ≤ d → d < cols
       → (parent e model.activated d ≡ by p s → p ≤ r → won e model.activated r v c ≡ true → won e model.activated r v d ≡ true)
@@ -229,15 +225,10 @@ module _ (e : Rectangle) (rows cols : ℕ) (ks : List Call) where
   unfolding extend
   extraction_inserts_lem k h = rw trace_snoc (omega (arith, traces.step_new_extract e rows cols model k h))
 
-  -- An activation, and so any call, inserts at most three more than there are closed columns: its own intervals, one more than closed
-  -- columns between them, and the rests of those at the two ends of the range won.
-  pub activation_inserts_lem : Monge e rows cols → (k : Call) → (more k).inserted ≤ done.inserted + (3 + closed e rows cols)
-  unfolding extend
-  activation_inserts_lem ok k = rw trace_snoc (omega (arith, traces.step_new e rows cols ok model k (trace_sound e rows cols ks)))
-
-  -- So at most three in every block without a closed column (document 02, request 7).
+  -- An activation inserts at most three more than there are closed columns, by activation_inserts_lem. So at most three in every block without a
+  -- closed column (document 02, request 7).
   pub activation_inserts_three : Monge e rows cols → closed e rows cols ≡ 0 → (k : Call) → (more k).inserted ≤ done.inserted + 3
-  activation_inserts_three ok none k = omega (arith, activation_inserts_lem ok k, none)
+  activation_inserts_three ok none k = omega (arith, activation_inserts_lem e rows cols ks ok k, none)
 
   -- Over all calls: so many at most by each activation that is done, two by each extraction that hands out a column, none by any other call.
   pub insertions_allowed : Monge e rows cols → done.inserted ≤ allowances (closed e rows cols) ks done.answers

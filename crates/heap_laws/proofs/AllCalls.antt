@@ -9,9 +9,10 @@ use Prim.Native.Nat.{ℕ, suc, ◌+◌, ◌≤◌}
 use Rattle.definitions.specs.Network.{Rectangle}
 use Rattle.definitions.specs.Monge.{Monge, closed}
 use Rattle.definitions.specs.Model.{fresh, Call, Answer, step, Trace, fresh_trace, extend, trace_from, trace, AllExtractLeast, allowances}
-use Rattle.heap_laws.specs.Sound.{Sound, fresh_sound, extend_sound}
-use Rattle.heap_laws.specs.Extract.{extracts_least}
-use Rattle.heap_laws.specs.TraceCounts.{step_allowed}
+use Rattle.heap_laws.specs.Sound.{Sound}
+use Rattle.heap_laws.proofs.Sound.{fresh_sound, extend_sound}
+use Rattle.heap_laws.proofs.Extract.{extracts_least}
+use Rattle.heap_laws.proofs.TraceCounts.{step_allowed}
 
 module _ (e : Rectangle) (rows cols : ℕ) where
   record Answered (t : Trace) (ks : List Call) : Type 0 where
