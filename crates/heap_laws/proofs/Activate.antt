@@ -16,8 +16,8 @@ use Rattle.definitions.specs.Monge.{Monge, is_closed, closed}
 use Rattle.definitions.specs.Best.{nobody, lesser, least}
 use Rattle.definitions.specs.Intervals.{Interval, interval, runs, same_interval, is_kept, count_new}
 use Rattle.definitions.specs.Model.{Activation, Model, through, parent, available, is_activated, activate, intervals}
-use Rattle.definitions.specs.Laws.Members.{all_at, every_imp}
-use Rattle.definitions.specs.Laws.RunProofs.{tag, tag_is, runs_same, runs_none, Longest, runs_longest}
+use Rattle.definitions.proofs.Laws.Members.{all_at, every_imp}
+use Rattle.definitions.proofs.Laws.RunProofs.{tag, tag_is, runs_same, runs_none, Longest, runs_longest}
 use Rattle.basics.specs.ListLaws.{every_snoc, all_fails, count_none, count_le}
 use Rattle.logic.specs.Tests.{clash, split_at, Order, less, more, order, Truth, holds, fails, truth, Equal, equal, differ, equality}
 use Rattle.heap_laws.proofs.Lesser.{lesser_nobody, wins, loses}

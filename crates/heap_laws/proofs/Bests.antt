@@ -15,8 +15,8 @@ use Rattle.definitions.specs.Network.{Rectangle}
 use Rattle.definitions.specs.Best.{Best, nobody, by, lesser, least, placed, least_from, Lowest}
 use Rattle.definitions.specs.Intervals.{Interval, interval, adjoins, joined, prepend, prepend_column, runs, Rising, first_column, last_column}
 use Rattle.definitions.specs.Model.{Activation, Model, through, parent, available, activate, intervals, least_left, best_in}
-use Rattle.definitions.specs.Laws.LeastLaws.{Found, found_is, least_from_same}
-use Rattle.definitions.specs.Laws.RunProofs.{adjoin, runs_rising}
+use Rattle.definitions.proofs.Laws.LeastLaws.{Found, found_is, least_from_same}
+use Rattle.definitions.proofs.Laws.RunProofs.{adjoin, runs_rising}
 use Rattle.logic.specs.Tests.{split_at, Truth, holds, fails, truth, Order, less, more, order}
 use Rattle.heap_laws.proofs.Lesser.{lesser_nobody, lesser_assoc, up_to_lesser, up_to_is}
 use Rattle.heap_laws.specs.Lesser.{UpTo}

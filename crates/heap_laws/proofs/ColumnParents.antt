@@ -19,8 +19,8 @@ use Rattle.definitions.specs.Monge.{Monge}
 use Rattle.definitions.specs.Best.{Best, nobody, by}
 use Rattle.definitions.specs.Intervals.{Interval, interval, runs}
 use Rattle.definitions.specs.Model.{Activation, Model, parent, available, intervals}
-use Rattle.definitions.specs.Laws.Members.{every_is, every_imp}
-use Rattle.definitions.specs.Laws.RunProofs.{tag, tag_is, lookup, lookup_runs, Longest, runs_longest}
+use Rattle.definitions.proofs.Laws.Members.{every_is, every_imp}
+use Rattle.definitions.proofs.Laws.RunProofs.{tag, tag_is, lookup, lookup_runs, Longest, runs_longest}
 use Rattle.logic.specs.Tests.{clash, and_both, Truth, holds, fails, truth, Equal, equal, differ, equality}
 use Rattle.heap_laws.specs.Parents.{row_at}
 use Rattle.heap_laws.proofs.Parents.{parent_nobody, parent_none, available_parent}

@@ -13,9 +13,9 @@ use borrow.Author.Tests.{lt-ltb, le-ltb, le-leb, lt-leb, ne_eqb}
 use Rattle.definitions.specs.Lists.{Every}
 use Rattle.definitions.specs.Best.{Best}
 use Rattle.definitions.specs.Intervals.{Interval, interval, runs, same_interval, is_kept, count_new, Rising}
-use Rattle.definitions.specs.Laws.Members.{every_imp}
-use Rattle.definitions.specs.Laws.OrderLaws.{rising_after, Elsewhere, not_elsewhere, not_after}
-use Rattle.definitions.specs.Laws.RunProofs.{same_interval_refl, runs_same, runs_rising, IsRun, Longest, runs_longest}
+use Rattle.definitions.proofs.Laws.Members.{every_imp}
+use Rattle.definitions.proofs.Laws.OrderLaws.{rising_after, Elsewhere, not_elsewhere, not_after}
+use Rattle.definitions.proofs.Laws.RunProofs.{same_interval_refl, runs_same, runs_rising, IsRun, Longest, runs_longest}
 use Rattle.logic.specs.Tests.{Order, less, more, order, Truth, holds, fails, truth}
 use Rattle.basics.specs.ListLaws.{every_snoc}
 use Rattle.heap_laws.proofs.Sides.{every_parts, runs_side, runs_break}

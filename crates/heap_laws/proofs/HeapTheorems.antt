@@ -22,9 +22,10 @@ use Rattle.definitions.specs.Network.{Rectangle}
 use Rattle.definitions.specs.Monge.{Monge, is_monge, is_closed, closed}
 use Rattle.definitions.specs.Best.{Best, by, lesser, least, Lowest}
 use Rattle.definitions.specs.Intervals.{Interval, runs, Distinct, Rising, count_new}
-use Rattle.definitions.specs.Model.{LeastLeft, through, parent, available, extract, Model, fresh, intervals, intervals_rise, least_left, best_in, with_best, HasBest, each_has_best, Call, extracts, coded, nothing_left, judge, step, Trace, extend, trace, AllExtractLeast, allowances}
-use Rattle.definitions.specs.Laws.MongeLaws.{is_monge_is, is_monge_from}
-use Rattle.definitions.specs.Laws.RunProofs.{lookup, runs_length}
+use Rattle.definitions.specs.Model.{LeastLeft, through, parent, available, extract, Model, fresh, intervals, least_left, best_in, with_best, HasBest, Call, extracts, coded, nothing_left, judge, step, Trace, extend, trace, AllExtractLeast, allowances}
+use Rattle.definitions.proofs.Model.{intervals_rise, each_has_best}
+use Rattle.definitions.proofs.Laws.MongeLaws.{is_monge_is, is_monge_from}
+use Rattle.definitions.proofs.Laws.RunProofs.{lookup, runs_length}
 use Rattle.monge_laws.proofs.Inequality as inequality
 use Rattle.monge_laws.specs.Neighbours.{is_monge_fast}
 use Rattle.monge_laws.proofs.Neighbours.{fast_same}

@@ -7,7 +7,7 @@ use Rattle.std.proofs.Common.{ap, le_refl, zero-add, add-zero, suc-add, add-suc,
 use Rattle.definitions.specs.Lists.{Every}
 use Rattle.definitions.specs.Best.{Best, nobody, by}
 use Rattle.definitions.specs.Intervals.{Interval, interval, adjoins, joined, prepend, prepend_column, runs, Rising}
-use Rattle.definitions.specs.Laws.RunProofs.{tag, tag_is, adjoin, runs_rising, IsRun, Longest, runs_longest}
+use Rattle.definitions.proofs.Laws.RunProofs.{tag, tag_is, adjoin, runs_rising, IsRun, Longest, runs_longest}
 use Rattle.logic.specs.Tests.{Truth, holds, fails, truth}
 use Rattle.heap_laws.specs.Sides.{Side, apart, meets, Break}
 

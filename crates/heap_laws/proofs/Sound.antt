@@ -15,7 +15,7 @@ use Rattle.definitions.specs.Limits.{max_label, sum, no_path}
 use Rattle.definitions.specs.Lists.{mem, Every}
 use Rattle.definitions.specs.Network.{Rectangle}
 use Rattle.definitions.specs.Best.{Best, nobody, by, lesser, least, least_from}
-use Rattle.definitions.specs.Laws.LeastLaws.{Found, found_is}
+use Rattle.definitions.proofs.Laws.LeastLaws.{Found, found_is}
 use Rattle.definitions.specs.Model.{Activation, Model, fresh, through, parent, available, is_activated, Call, activate, extract, step, Trace, extend, trace_from, trace, Reached}
 use Rattle.logic.specs.Tests.{clash, or_left, Truth, holds, fails, truth, Equal, equal, differ, equality}
 use Rattle.basics.specs.ListLaws.{every_snoc, every_map, Different, mem_snoc, different_snoc, at_most}

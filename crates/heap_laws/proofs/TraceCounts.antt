@@ -10,7 +10,7 @@ use Rattle.definitions.specs.Network.{Rectangle}
 use Rattle.definitions.specs.Monge.{Monge, closed}
 use Rattle.definitions.specs.Best.{Best, nobody, by, least_from}
 use Rattle.definitions.specs.Intervals.{count_new}
-use Rattle.definitions.specs.Laws.LeastLaws.{Found, found_is}
+use Rattle.definitions.proofs.Laws.LeastLaws.{Found, found_is}
 use Rattle.definitions.specs.Model.{available, Model, fresh, activate, extract, intervals, judge, Call, Answer, coded, extraction_of, step, allowance, Trace, extend, trace}
 use Rattle.heap_laws.specs.ModelCalls.{Cases, activates, extracts, refuses}
 use Rattle.heap_laws.proofs.ModelCalls.{cases, step_activate, step_extract, step_refused, trace_induction}

@@ -19,7 +19,7 @@ use Rattle.definitions.specs.Best.{Best, nobody, by, lesser, least_from}
 use Rattle.definitions.specs.Index.{column_of, least_in, in_stretch, held_in, ask}
 use Rattle.definitions.proofs.Laws.LeastLaws.{least_from_same}
 use Rattle.logic.specs.Tests.{Order, less, more, order, Truth, holds, fails, truth, and_left, and_right}
-use Rattle.heap_laws.specs.Lesser.{lesser_nobody, lesser_assoc}
+use Rattle.heap_laws.proofs.Lesser.{lesser_nobody, lesser_assoc}
 use Rattle.index.specs.HeldRows.{held_from, HeldAt}
 use Rattle.index.specs.PutPlaces.{holds_first, holds_rest, holds_left, holds_right}
 use Rattle.index.specs.StretchHalves.{least_from_split, least_from_nobody, least_some, least_one, held_halves, length_held}

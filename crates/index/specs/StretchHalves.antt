@@ -12,7 +12,7 @@ use Rattle.definitions.specs.Best.{Best, nobody, by, lesser, placed, least_from}
 use Rattle.definitions.specs.Index.{column_of, least_in, held_at}
 use Rattle.definitions.proofs.Laws.LeastLaws.{Found, found_is, least_from_same}
 use Rattle.logic.specs.Tests.{Order, less, more, order}
-use Rattle.heap_laws.specs.Lesser.{lesser_assoc}
+use Rattle.heap_laws.proofs.Lesser.{lesser_assoc}
 use Rattle.index.specs.HeldRows.{held_from}
 
 -- ---- the least of a stretch

@@ -20,7 +20,7 @@ use Rattle.definitions.specs.Blocks.{Window, windows_of, rows_of, logarithm, Blo
 use Rattle.definitions.proofs.Laws.MongeLaws.{is_monge_is}
 use Rattle.definitions.proofs.Laws.Members.{every_imp}
 use Rattle.basics.specs.ListLaws.{every_at, every_append, every_map, Any, any_at, at_any, any_left, any_right, any_cases, any_map, any_back, total_le, total_append, Different}
-use Rattle.heap_laws.specs.Activate.{closed_none, closed_few}
+use Rattle.heap_laws.proofs.Activate.{closed_none, closed_few}
 use Rattle.splits.specs.Windows.{Inside, windows_inside, pair_once, spanned, Spans, rows_few, cols_few}
 use Rattle.basics.specs.ListPlaces.{different_at}
 use Rattle.basics.specs.PiecePlaces.{block_rows, block_cols, row_vertex, col_vertex, entry_at}

@@ -25,8 +25,10 @@ use Rattle.definitions.specs.Model.{Model, parent, available}
 use Rattle.definitions.specs.Labelling.{BlockState, extraction, fresh_block, apply, least_of, activate_vertex, Settled, settled_at, State, label_of, settle_as, settle, no_block_state, chosen, place_in, arc_at, arc_into, extract_from, advance, steps, start}
 use Rattle.definitions.proofs.Laws.Members.{every_imp}
 use Rattle.basics.specs.ListLaws.{every_at, every_set, every_snoc, every_map, every_all, map_same, map_back, Different, different_snoc, at_most}
-use Rattle.heap_laws.specs.Lesser.{From, from_each}
-use Rattle.heap_laws.specs.Parents.{available_parent, parent_row, parent_path, parent_activated, parent_sum, row_label}
+use Rattle.heap_laws.specs.Lesser.{From}
+use Rattle.heap_laws.proofs.Lesser.{from_each}
+use Rattle.heap_laws.proofs.Parents.{available_parent, parent_row, parent_path, parent_activated, parent_sum}
+use Rattle.heap_laws.specs.Parents.{row_label}
 use Rattle.labelling_laws.specs.Labels.{label_old, label_new, Status, settled, unsettled, status, labelled, unlabelled, own_labels}
 use Rattle.labelling_laws.specs.Activated.{row_settled}
 use Rattle.labelling_laws.specs.Walks.{BlockArc, Arrives}

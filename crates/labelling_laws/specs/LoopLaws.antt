@@ -18,7 +18,7 @@ use Rattle.definitions.specs.Model.{available, intervals}
 use Rattle.definitions.specs.Labelling.{BlockState, activation, extraction, fresh_block, apply, least_of, place_of, activate_at, activate_vertex, settled_at, State, label_of, settle_as, settle, no_block_state, chosen, place_in, arc_into, extract_from, advance, start, held_label, labels}
 use Rattle.logic.specs.Tests.{Equal, equal, differ, equality}
 use Rattle.basics.specs.ListLaws.{every_all}
-use Rattle.heap_laws.specs.Extract.{found_none}
+use Rattle.heap_laws.proofs.Extract.{found_none}
 use Rattle.basics.specs.Sequences.{length_up_from, get_or_up_from, map_at}
 use Rattle.labelling_laws.specs.Labels.{label_new, label_other, Status, settled, unsettled, status}
 use Rattle.labelling_laws.specs.BlockSteps.{block_at, column_vertex}

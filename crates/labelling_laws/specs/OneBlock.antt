@@ -25,12 +25,15 @@ use Rattle.definitions.specs.Model.{Activation, Model, through, parent, availabl
 use Rattle.definitions.specs.Labelling.{BlockState, activation, extraction, fresh_block, apply, least_of, place_of, activate_at, activate_vertex, Settled, settled_at, label_of}
 use Rattle.logic.specs.Tests.{clash, Truth, holds, fails, truth, Equal, equal, differ, equality}
 use Rattle.basics.specs.ListLaws.{every_snoc, Different, mem_snoc}
-use Rattle.heap_laws.specs.Lesser.{From, from_lesser}
-use Rattle.heap_laws.specs.Parents.{parent_snoc, through_from, available_parent}
-use Rattle.heap_laws.specs.ModelCalls.{step_activate, step_extract}
-use Rattle.heap_laws.specs.Sound.{Sound, fresh_sound, step_sound, activated_few, extracted_few}
-use Rattle.heap_laws.specs.Extract.{extract_here, extract_other}
-use Rattle.heap_laws.specs.TraceCounts.{Few, extend_few}
+use Rattle.heap_laws.specs.Lesser.{From}
+use Rattle.heap_laws.proofs.Lesser.{from_lesser}
+use Rattle.heap_laws.proofs.Parents.{parent_snoc, through_from, available_parent}
+use Rattle.heap_laws.proofs.ModelCalls.{step_activate, step_extract}
+use Rattle.heap_laws.specs.Sound.{Sound}
+use Rattle.heap_laws.proofs.Sound.{fresh_sound, step_sound, activated_few, extracted_few}
+use Rattle.heap_laws.proofs.Extract.{extract_here, extract_other}
+use Rattle.heap_laws.specs.TraceCounts.{Few}
+use Rattle.heap_laws.proofs.TraceCounts.{extend_few}
 use Rattle.labelling_laws.specs.VertexPlaces.{place_in}
 use Rattle.labelling_laws.specs.Activated.{activated_one, activated_by, activated_by_snoc, not_activated}
 

@@ -18,8 +18,8 @@ use Rattle.definitions.specs.Metres.{IsNumber}
 use Rattle.definitions.specs.Lists.{all}
 use Rattle.definitions.specs.Network.{Rectangle}
 use Rattle.definitions.specs.Monge.{Monge, corners, is_monge}
-use Rattle.definitions.specs.Laws.MongeLaws.{is_monge_is, is_monge_from}
-use Rattle.definitions.specs.Laws.Members.{all_at, all_is}
+use Rattle.definitions.proofs.Laws.MongeLaws.{is_monge_is, is_monge_from}
+use Rattle.definitions.proofs.Laws.Members.{all_at, all_is}
 use Rattle.logic.specs.Tests.{clash, split_at, Truth, holds, fails, truth, Equal, equal, differ, equality}
 use Rattle.basics.specs.ListLaws.{all_next, all_fails, all_not}
 use Rattle.monge_laws.specs.Inequality.{Corners}

@@ -12,7 +12,7 @@ use Rattle.definitions.specs.Limits.{max_length, no_path}
 use Rattle.definitions.specs.Metres.{IsNumber}
 use Rattle.definitions.specs.Network.{Rectangle}
 use Rattle.definitions.specs.Monge.{Monge}
-use Rattle.definitions.specs.Laws.Members.{all_at, all_is}
+use Rattle.definitions.proofs.Laws.Members.{all_at, all_is}
 use Rattle.logic.specs.Tests.{and_left, and_right, and_both}
 use Rattle.monge_laws.proofs.Inequality.{corners_is, corners_from}
 use Rattle.monge_laws.specs.QuickCheck.{quick_corners, is_monge_quick}

@@ -11,7 +11,7 @@ use Rattle.definitions.specs.Limits.{no_path}
 use Rattle.definitions.specs.Lists.{all}
 use Rattle.definitions.specs.Network.{Rectangle}
 use Rattle.definitions.specs.Monge.{is_monge}
-use Rattle.definitions.specs.Laws.Members.{all_at, all_is}
+use Rattle.definitions.proofs.Laws.Members.{all_at, all_is}
 use Rattle.logic.specs.Tests.{same_test}
 use Rattle.basics.specs.ListLaws.{all_same}
 use Rattle.monge_laws.specs.Inequality.{Corners}

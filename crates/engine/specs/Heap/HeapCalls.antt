@@ -30,15 +30,19 @@ use Rattle.definitions.proofs.Laws.RunProofs.{runs_none, runs_length}
 use Rattle.definitions.specs.declared.Extraction.{Extraction}
 use Rattle.definitions.specs.declared.Extraction.TheVariants.{Column, Nothing}
 use Rattle.basics.specs.ListLaws.{every_snoc, count_same, count_some, count_full}
-use Rattle.heap_laws.specs.ModelCalls.{Activates, step_activate, step_extract}
-use Rattle.heap_laws.specs.Parents.{parent_snoc, parent_row, parent_path}
-use Rattle.heap_laws.specs.Won.{won, won_path, won_nowhere, won_between, Range, range_of_ends}
-use Rattle.heap_laws.specs.Sound.{reached_step, reached_sound, extracted_lost}
-use Rattle.heap_laws.specs.Counting.{count_new_same, runs_distinct, balance}
+use Rattle.heap_laws.specs.ModelCalls.{Activates}
+use Rattle.heap_laws.proofs.ModelCalls.{step_activate, step_extract}
+use Rattle.heap_laws.proofs.Parents.{parent_snoc, parent_row, parent_path}
+use Rattle.heap_laws.specs.Won.{won, Range}
+use Rattle.heap_laws.proofs.Won.{won_path, won_nowhere, won_between, range_of_ends}
+use Rattle.heap_laws.proofs.Sound.{reached_step, reached_sound, extracted_lost}
+use Rattle.heap_laws.proofs.Counting.{count_new_same, runs_distinct, balance}
 use Rattle.heap_laws.specs.Edits.{before, from, cut_at}
-use Rattle.heap_laws.specs.Activate.{labelled, closed_at, activate_none, activate_range, activate_edit, activate_inserted}
-use Rattle.heap_laws.specs.Extract.{extract_edit, extract_inserted}
-use Rattle.heap_laws.specs.Bests.{SameSum, activate_same, activate_lowers}
+use Rattle.heap_laws.specs.Activate.{labelled}
+use Rattle.heap_laws.proofs.Activate.{closed_at, activate_none, activate_range, activate_edit, activate_inserted}
+use Rattle.heap_laws.proofs.Extract.{extract_edit, extract_inserted}
+use Rattle.heap_laws.specs.Bests.{SameSum}
+use Rattle.heap_laws.proofs.Bests.{activate_same, activate_lowers}
 use Rattle.logic.specs.Tests.{clash, split_at, Truth, holds, fails, truth, Order, less, more, order}
 use Rattle.engine.specs.Heap.WordLaws.{word_end, Word, length_span, span_same, head_mark, marks_then, PutLeaves}
 use Rattle.engine.specs.Heap.Clear.{rest, rest_len, left_of, right_of, count_after, Meets, Room, Cleared, cut_count, CutNeeds, CutLeaves}

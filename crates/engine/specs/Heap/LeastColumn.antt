@@ -15,8 +15,8 @@ use Rattle.definitions.specs.Limits.{below}
 use Rattle.definitions.specs.Best.{Best, nobody, by, lesser, least}
 use Rattle.definitions.proofs.Laws.LeastLaws.{least_lowest}
 use Rattle.definitions.specs.Model.{Model, available, least_left, best_in}
-use Rattle.heap_laws.specs.Lesser.{lesser_assoc}
-use Rattle.heap_laws.specs.Bests.{least_of_bests}
+use Rattle.heap_laws.proofs.Lesser.{lesser_assoc}
+use Rattle.heap_laws.proofs.Bests.{least_of_bests}
 use Rattle.engine.specs.declared.heap.Lowest.{Lowest}
 use Rattle.engine.specs.declared.heap.Lowest.TheVariants.{At, Nothing}
 use Rattle.engine.specs.Heap.Laid.{In}

@@ -28,9 +28,9 @@ use Rattle.definitions.specs.HeldModel.{lent_entry}
 use Rattle.definitions.proofs.Laws.LeastLaws.{Found, found_is, least_from_same}
 use Rattle.definitions.proofs.Laws.RunProofs.{runs_none, tag, lookup, lookup_runs, runs_rising, IsRun, Longest, runs_longest}
 use Rattle.logic.specs.Tests.{clash, and_left, and_right, split_at, Truth, holds, fails, truth, Equal, equal, differ, equality, Order, less, more, order}
-use Rattle.heap_laws.specs.Lesser.{lesser_nobody}
-use Rattle.heap_laws.specs.Parents.{through_some, through_none}
-use Rattle.heap_laws.specs.Sides.{runs_break, runs_one}
+use Rattle.heap_laws.proofs.Lesser.{lesser_nobody}
+use Rattle.heap_laws.proofs.Parents.{through_some, through_none}
+use Rattle.heap_laws.proofs.Sides.{runs_break, runs_one}
 use Rattle.heap_laws.specs.Activate.{labelled}
 use Rattle.index.specs.StretchHalves.{least_from_split, least_from_nobody}
 use Rattle.engine.specs.Heap.WordLaws.{word_end, span_same, span_cut, length_span, marks_same, marks_then, Outside, PutLeaves}

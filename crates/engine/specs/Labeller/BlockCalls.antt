@@ -24,8 +24,9 @@ use Rattle.definitions.proofs.Laws.LeastLaws.{least_lowest}
 use Rattle.logic.specs.Tests.{Order, less, more, order, Equal, equal, differ, equality}
 use Rattle.heap_laws.specs.Sound.{Sound}
 use Rattle.heap_laws.specs.Bests.{SameSum}
-use Rattle.heap_laws.specs.ModelCalls.{Activates, Cases, activates, extracts, refuses, cases, step_activate, step_extract}
-use Rattle.heap_laws.specs.Agree.{available_agree, least_from_agree, extend_agree}
+use Rattle.heap_laws.specs.ModelCalls.{Activates, Cases, activates, extracts, refuses}
+use Rattle.heap_laws.proofs.ModelCalls.{cases, step_activate, step_extract}
+use Rattle.heap_laws.proofs.Agree.{available_agree, least_from_agree, extend_agree}
 use Rattle.preparation.specs.Prepared.{row_in, col_in, cols_in, row_count_in}
 use Rattle.engine.specs.declared.heap.Lowest as code
 use Rattle.engine.specs.declared.heap.Activated.{Activated}

@@ -24,7 +24,7 @@ use Rattle.definitions.specs.Labelling.{BlockState, extraction, fresh_block, act
 use Rattle.definitions.specs.Entries.{label_answer}
 use Rattle.definitions.specs.declared.LabelAnswer.{LabelAnswer}
 use Rattle.basics.specs.ListLaws.{every_at, every_all}
-use Rattle.heap_laws.specs.Activate.{closed_few}
+use Rattle.heap_laws.proofs.Activate.{closed_few}
 use Rattle.labelling_laws.specs.OneBlock as block
 use Rattle.labelling_laws.specs.OneBlock.{Fit, inserted_most}
 use Rattle.labelling_laws.specs.BlockSteps.{block_at, Setting}

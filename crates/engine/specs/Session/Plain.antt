@@ -10,8 +10,8 @@ use Rattle.definitions.proofs.Model.{first_columns_rise, in_order_already, each_
 use Rattle.definitions.specs.Entries.{AfterSession, rectangle_of, judge_session, calls_of, answers_of, answers_in, intervals_of, session}
 use Rattle.basics.specs.ListLaws.{every_map, map_back}
 use Rattle.logic.specs.Tests.{Equal, equal, differ, equality}
-use Rattle.heap_laws.specs.AllCalls.{trace_each, trace_allowed, trace_extractions}
-use Rattle.heap_laws.specs.HeapTheorems.{intervals_once, inserted_removed_kept}
+use Rattle.heap_laws.proofs.AllCalls.{trace_each, trace_allowed, trace_extractions}
+use Rattle.heap_laws.proofs.HeapTheorems.{intervals_once, inserted_removed_kept}
 use Rattle.engine.specs.Session.Judged.{accepted}
 use Rattle.engine.specs.Session.Fronts.{answers_back}
 use Rattle.engine.specs.Session.SessionChain.{length_calls_of}

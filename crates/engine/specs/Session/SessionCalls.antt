@@ -22,11 +22,12 @@ use Rattle.definitions.specs.Intervals.{count_new}
 use Rattle.definitions.specs.Model.{Activation, Model, activate, extract, available, extraction_of, answer_of, is_activated, intervals, Call, Answer, judge}
 use Rattle.definitions.specs.Labelling.{activation}
 use Rattle.logic.specs.Tests.{clash, or_left, or_right, Truth, holds, fails, truth}
-use Rattle.heap_laws.specs.ModelCalls.{Activates, Cases, activates, extracts, refuses, cases, step_activate, step_extract, step_refused}
-use Rattle.heap_laws.specs.Parents.{is_activated_snoc}
-use Rattle.heap_laws.specs.Counting.{count_new_same}
-use Rattle.heap_laws.specs.Extract.{extracts_least}
-use Rattle.heap_laws.specs.TraceCounts.{call_balance, step_allowed}
+use Rattle.heap_laws.specs.ModelCalls.{Activates, Cases, activates, extracts, refuses}
+use Rattle.heap_laws.proofs.ModelCalls.{cases, step_activate, step_extract, step_refused}
+use Rattle.heap_laws.proofs.Parents.{is_activated_snoc}
+use Rattle.heap_laws.proofs.Counting.{count_new_same}
+use Rattle.heap_laws.proofs.Extract.{extracts_least}
+use Rattle.heap_laws.proofs.TraceCounts.{call_balance, step_allowed}
 use Rattle.definitions.specs.declared.Called.{Called}
 use Rattle.engine.specs.Heap.Holds.{sound_of, relabelled}
 use Rattle.engine.specs.Heap.HeapCalls.{Becomes, ActivateGiven, MinExtracted}
