@@ -17,8 +17,7 @@ use Rattle.definitions.specs.Entries.{has_places}
 use Rattle.definitions.proofs.Laws.Causes.{refused, passed, last}
 use Rattle.judgements.specs.LentPieces.{judge_piece_in}
 use Rattle.judgements.specs.PieceJudgement.{piece_lent}
-use Rattle.judgements.proofs.judge_pieces.Statement.{statement}
-use Rattle.judgements.proofs.judge_pieces.Tie as tie
+use Rattle.judgements.proofs.judge_pieces.Goals as goal
 
 -- a part that lies in its buffer
 part_length : (xs : List ℕ) (size d : ℕ) → size * d + size ≤ length xs → length (take size (drop (size * d) xs)) ≡ size
@@ -49,43 +48,23 @@ module _ (n p : ℕ) (sizes vertices lengths : List ℕ) (d : ℕ)
   went : r ≡ 0 → judge_from n sizes vertices lengths 0 p ≡ judge_from n sizes vertices lengths (d + 1) (p - (d + 1))
   went z = next ∙ passed r _ z ∙ last _
 
-abbrev invariant-loop : tie.invariant-loop
-invariant-loop n p sizes vertices lengths d₀ d =
-    (d ≤ p) × (judge_from n sizes vertices lengths 0 p ≡ judge_from n sizes vertices lengths d (p - d))
+pub loop-d-init : goal.loop-d-init
+loop-d-init c = (search rules, rw (sub-zero c.args.p))
 
-abbrev decreases-loop : tie.decreases-loop
-decreases-loop n p sizes vertices lengths d₀ d = p - d
+pub returns-then-cause-ne-NONE : goal.returns-then-cause-ne-NONE
+returns-then-cause-ne-NONE c =
+    let broad : row_places * c.loop-d.d + row_places ≤ length c.args.vertices.now = omega arith in
+    let full : table_places * c.loop-d.d + table_places ≤ length c.args.lengths.now = omega arith in
+    stopped _ _ _ _ _ c.loop-d.d c.loop-d.invariant.1 c.loop-d-test.true broad full _ c.judge_piece-cause.ensures c.if-cause-ne-NONE.true
 
-loop-holds : tie.Need-loop-init invariant-loop decreases-loop
-loop-holds c = (search rules, rw (sub-zero c.before.before.before.args.p))
+pub loop-d-preserved : goal.loop-d-preserved
+loop-d-preserved c =
+    let broad : row_places * c.loop-d.d + row_places ≤ length c.args.vertices.now = omega arith in
+    let full : table_places * c.loop-d.d + table_places ≤ length c.args.lengths.now = omega arith in
+    (search rules, went _ _ _ _ _ c.loop-d.d c.loop-d.invariant.1 c.loop-d-test.true broad full _ c.judge_piece-cause.ensures c.if-cause-ne-NONE.false)
 
-returns : tie.Need-returns invariant-loop decreases-loop
-returns c =
-    let i = c.before.before.before.before.before in
-    let l = i.before in
-    let s = l.before.before.before.before in
-    let broad : row_places * l.loop.d + row_places ≤ length s.args.vertices.now = omega arith in
-    let full : table_places * l.loop.d + table_places ≤ length s.args.lengths.now = omega arith in
-    stopped _ _ _ _ _ l.loop.d l.loop.invariant.1 i.loop-test.true broad full _ c.before.judge-piece.ensures c.if1.true
-
-loop-again : tie.Need-loop-preserved invariant-loop decreases-loop
-loop-again c =
-    let i = c.before.before.before.before.before in
-    let l = i.before in
-    let s = l.before.before.before.before in
-    let broad : row_places * l.loop.d + row_places ≤ length s.args.vertices.now = omega arith in
-    let full : table_places * l.loop.d + table_places ≤ length s.args.lengths.now = omega arith in
-    (search rules, went _ _ _ _ _ l.loop.d l.loop.invariant.1 i.loop-test.true broad full _ c.before.judge-piece.ensures c.if1.false)
-
-returns-2 : tie.Need-returns-2 invariant-loop decreases-loop
+pub returns : goal.returns
 unfolding judge_from
-returns-2 c =
-    let e : c.before.loop.d ≡ c.before.before.before.before.before.args.p = omega arith in
-    rw (c.before.loop.invariant.1, e, sub_self c.before.before.before.before.before.args.p)
-
-pub judge_pieces_spec : {M : Type 1} → statement M
-judge_pieces_spec =
-    tie.close (tie.spec invariant-loop decreases-loop loop-holds (λ c. search rules) (λ c. search rules) (λ c. search rules) (λ c. search rules)
-    (λ c. search rules) (λ c. search rules) (λ c. search rules) (λ c. search rules) (λ c. search rules) (λ c. search rules)
-    (λ c. search rules) (λ c. search rules) (λ c. search rules) (λ c. search rules) (λ c κs. search rules) returns (λ c. search rules)
-    (λ c. search rules) loop-again returns-2)
+returns c =
+    let e : c.loop-d.d ≡ c.args.p = omega arith in
+    rw (c.loop-d.invariant.1, e, sub_self c.args.p)

@@ -18,8 +18,7 @@ use Rattle.definitions.proofs.Laws.Causes.{refused, passed, last, size_in_lem}
 use Rattle.monge.specs.Matrix.{rows_in}
 use Rattle.judgements.specs.LentPieces.{piece_in, judge_piece_in, judge_table}
 use Rattle.judgements.specs.PieceJudgement.{table_blocks}
-use Rattle.judgements.proofs.judge_piece.Statement.{statement}
-use Rattle.judgements.proofs.judge_piece.Tie as tie
+use Rattle.judgements.proofs.judge_piece.Goals as goal
 
 module _ (n m : ℕ) (vertices lengths : List ℕ) where
   narrow : length vertices ≢ row_places → 1 ≡ judge_piece_in n m vertices lengths
@@ -56,52 +55,26 @@ module _ (n m : ℕ) (vertices lengths : List ℕ) where
             e ∙ table_blocks m lengths (piece_in m vertices lengths) full size (length-take-le m vertices l) refl
             ∙ sym (judged ∙ passed _ _ size ∙ passed _ _ line ∙ passed _ _ rows ∙ last _)
 
-returns : tie.Need-returns
-returns c = ⊎_elim (λ w. narrow _ _ _ _ w.taken) (λ w. short _ _ _ _ (not-true _ w.1.taken)) c.if1.branch
+pub returns-then-vertices-ne-ROW_PLACES : goal.returns-then-vertices-ne-ROW_PLACES
+returns-then-vertices-ne-ROW_PLACES c = ⊎_elim (λ w. narrow _ _ _ _ w.taken) (λ w. short _ _ _ _ (not-true _ w.1.taken)) c.then-vertices-ne-ROW_PLACES.either
 
-returns-2 : tie.Need-returns-2
-returns-2 c =
-    let p = c.before.before in
-    outside _ _ _ _ p.before.if1.false (eqb-true _ _ (not-false _ p.if2.false)) _ c.before.judge-size.ensures c.if3.true
+pub returns-then-size-ne-NONE : goal.returns-then-size-ne-NONE
+returns-then-size-ne-NONE c = outside _ _ _ _ c.if-vertices-ne-ROW_PLACES.false (eqb-true _ _ (c.if-lengths-ne-TABLE_PLACES.false)) _ c.judge_size-size.ensures c.if-size-ne-NONE.true
 
-slice-aggregate-judge-vertices : tie.Need-slice-aggregate-judge-vertices
-slice-aggregate-judge-vertices c =
-    let s = c.before.before in
-    let a = s.before.before.before.before.before.args in
-    let h : a.m ≤ length a.vertices.now = omega (arith, (size_in_lem a.m (sym s.judge-size.ensures ∙ c.before.if3.false)).1, s.before.before.if1.false) in
+pub slice_bounds-judge_vertices-end : goal.slice_bounds-judge_vertices-end
+slice_bounds-judge_vertices-end c =
+    let a = c.args in
+    let h : a.m ≤ length a.vertices.now = omega (arith, (size_in_lem a.m (sym c.judge_size-size.ensures ∙ c.if-size-ne-NONE.false)).1, c.if-vertices-ne-ROW_PLACES.false) in
     sym (length-take-le a.m a.vertices.now h)
 
-returns-3 : tie.Need-returns-3
-returns-3 c =
-    let t = c.before.before.before in
-    let s = t.before in
-    let p = s.before in
-    wrong_vertex _ _ _ _ p.before.if1.false (eqb-true _ _ (not-false _ p.if2.false)) (sym s.judge-size.ensures ∙ t.if3.false) _ c.before.judge-vertices.ensures c.if4.true
+pub returns-then-line-ne-NONE : goal.returns-then-line-ne-NONE
+returns-then-line-ne-NONE c = wrong_vertex _ _ _ _ c.if-vertices-ne-ROW_PLACES.false (eqb-true _ _ (c.if-lengths-ne-TABLE_PLACES.false)) (sym c.judge_size-size.ensures ∙ c.if-size-ne-NONE.false) _ c.judge_vertices-line.ensures c.if-line-ne-NONE.true
 
-judge-rows-requires : tie.Need-judge-rows-requires
-judge-rows-requires c κs =
-    let t = c.before.before.before in
-    let s = t.before in
-    ((size_in_lem _ (sym s.judge-size.ensures ∙ t.if3.false)).1, eqb-true _ _ (not-false _ s.before.if2.false))
+pub judge_rows-rows-requires : goal.judge_rows-rows-requires
+judge_rows-rows-requires c = ((size_in_lem _ (sym c.judge_size-size.ensures ∙ c.if-size-ne-NONE.false)).1, eqb-true _ _ (c.if-lengths-ne-TABLE_PLACES.false))
 
-returns-4 : tie.Need-returns-4
-returns-4 c =
-    let l = c.before.before in
-    let t = l.before.before.before in
-    let s = t.before in
-    let p = s.before in
-    wrong_row _ _ _ _ p.before.if1.false (eqb-true _ _ (not-false _ p.if2.false)) (sym s.judge-size.ensures ∙ t.if3.false) (sym l.before.judge-vertices.ensures ∙ l.if4.false) _ c.before.judge-rows.ensures c.if5.true
+pub returns-then-rows-ne-NONE : goal.returns-then-rows-ne-NONE
+returns-then-rows-ne-NONE c = wrong_row _ _ _ _ c.if-vertices-ne-ROW_PLACES.false (eqb-true _ _ (c.if-lengths-ne-TABLE_PLACES.false)) (sym c.judge_size-size.ensures ∙ c.if-size-ne-NONE.false) (sym c.judge_vertices-line.ensures ∙ c.if-line-ne-NONE.false) _ c.judge_rows-rows.ensures c.if-rows-ne-NONE.true
 
-returns-5 : tie.Need-returns-5
-returns-5 c =
-    let r = c.before in
-    let l = r.before.before in
-    let t = l.before.before.before in
-    let s = t.before in
-    let p = s.before in
-    blocks _ _ _ _ p.before.if1.false (eqb-true _ _ (not-false _ p.if2.false)) (sym s.judge-size.ensures ∙ t.if3.false) (sym l.before.judge-vertices.ensures ∙ l.if4.false) _ c.judge-blocks.ensures (sym r.before.judge-rows.ensures ∙ r.if5.false)
-
-pub judge_piece_spec : {M : Type 1} → statement M
-judge_piece_spec =
-    tie.close (tie.spec returns (λ c κs. search rules) returns-2 slice-aggregate-judge-vertices (λ c κs. search rules) returns-3
-    judge-rows-requires returns-4 (λ c κs. search rules) returns-5)
+pub returns : goal.returns
+returns c = blocks _ _ _ _ c.if-vertices-ne-ROW_PLACES.false (eqb-true _ _ (c.if-lengths-ne-TABLE_PLACES.false)) (sym c.judge_size-size.ensures ∙ c.if-size-ne-NONE.false) (sym c.judge_vertices-line.ensures ∙ c.if-line-ne-NONE.false) _ c.judge_blocks.ensures (sym c.judge_rows-rows.ensures ∙ c.if-rows-ne-NONE.false)

@@ -9,8 +9,7 @@ use Rattle.definitions.specs.Judgement.{judge_bounds, judge_from, judge_network}
 use Rattle.definitions.specs.Entries.{judge_buffers, judge_lent}
 use Rattle.definitions.proofs.Laws.Causes.{refused, passed, last, bounds_in}
 use Rattle.basics.specs.Buffers.{buffers_are}
-use Rattle.judgements.proofs.judge_network.Statement.{statement}
-use Rattle.judgements.proofs.judge_network.Tie as tie
+use Rattle.judgements.proofs.judge_network.Goals as goal
 
 module _ (n p : ℕ) (sizes vertices lengths : List ℕ) where
   wrong_buffer : (r : ℕ) → r ≡ judge_buffers (length sizes) (length vertices) (length lengths) → r ≢ 0 → r ≡ judge_lent n p sizes vertices lengths
@@ -30,26 +29,16 @@ module _ (n p : ℕ) (sizes vertices lengths : List ℕ) where
     unfolding judge_network
     pieces bounds = sym (lent_network ∙ passed _ _ bounds ∙ last _)
 
-returns : tie.Need-returns
-returns c = wrong_buffer _ _ _ _ _ _ c.before.judge-buffers.ensures c.if1.true
+pub returns-then-buffers-ne-NONE : goal.returns-then-buffers-ne-NONE
+returns-then-buffers-ne-NONE c = wrong_buffer _ _ _ _ _ _ c.judge_buffers-buffers.ensures c.if-buffers-ne-NONE.true
 
-returns-2 : tie.Need-returns-2
-returns-2 c =
-    let b = c.before.before in
-    outside _ _ _ _ _ (sym b.before.judge-buffers.ensures ∙ b.if1.false) _ c.before.judge-bounds.ensures c.if2.true
+pub returns-then-bounds-ne-NONE : goal.returns-then-bounds-ne-NONE
+returns-then-bounds-ne-NONE c = outside _ _ _ _ _ (sym c.judge_buffers-buffers.ensures ∙ c.if-buffers-ne-NONE.false) _ c.judge_bounds-bounds.ensures c.if-bounds-ne-NONE.true
 
-judge-pieces-requires : tie.Need-judge-pieces-requires
-judge-pieces-requires c κs =
-    let b = c.before.before in
-    let h = buffers_are _ _ _ (sym b.before.judge-buffers.ensures ∙ b.if1.false) in
-    ((bounds_in _ _ (sym c.before.judge-bounds.ensures ∙ c.if2.false)).1, h.0, h.1, h.2)
+pub judge_pieces-requires : goal.judge_pieces-requires
+judge_pieces-requires c =
+    let h = buffers_are _ _ _ (sym c.judge_buffers-buffers.ensures ∙ c.if-buffers-ne-NONE.false) in
+    ((bounds_in _ _ (sym c.judge_bounds-bounds.ensures ∙ c.if-bounds-ne-NONE.false)).1, h.0, h.1, h.2)
 
-returns-3 : tie.Need-returns-3
-returns-3 c =
-    let s = c.before.before in
-    let b = s.before in
-    c.judge-pieces.ensures ∙ pieces _ _ _ _ _ (sym b.before.judge-buffers.ensures ∙ b.if1.false) (sym s.judge-bounds.ensures ∙ c.before.if2.false)
-
-pub judge_network_spec : {M : Type 1} → statement M
-judge_network_spec =
-    tie.close (tie.spec (λ c κs. search rules) returns (λ c κs. search rules) returns-2 judge-pieces-requires returns-3)
+pub returns : goal.returns
+returns c = c.judge_pieces.ensures ∙ pieces _ _ _ _ _ (sym c.judge_buffers-buffers.ensures ∙ c.if-buffers-ne-NONE.false) (sym c.judge_bounds-bounds.ensures ∙ c.if-bounds-ne-NONE.false)

@@ -19,8 +19,7 @@ use Rattle.basics.specs.Sequences.{length_up_from}
 use Rattle.monge.specs.Matrix.{lies_in, passes_in, table_monge_in}
 use Rattle.judgements.specs.LentPieces.{table_in, judge_table}
 use Rattle.judgements.specs.PieceJudgement.{blocks_windows}
-use Rattle.judgements.proofs.judge_blocks.Statement.{statement}
-use Rattle.judgements.proofs.judge_blocks.Tie as tie
+use Rattle.judgements.proofs.judge_blocks.Goals as goal
 
 module _ (m : ℕ) (lengths : List ℕ) where
   short : length lengths ≢ table_places → 1 ≡ judge_table m lengths
@@ -46,24 +45,18 @@ module _ (m : ℕ) (lengths : List ℕ) where
           rw (within, eq-eqb (length lengths) table_places full, ← size)
           (passed 0 _ refl ∙ passed r _ fits ∙ last _ ∙ rw (blocks_windows m lengths (table_in m lengths) (length_up_from 1 m) refl inside.1 full))
 
-returns : tie.Need-returns
-returns c = short _ _ c.if1.true
+pub returns-then-lengths-ne-TABLE_PLACES : goal.returns-then-lengths-ne-TABLE_PLACES
+returns-then-lengths-ne-TABLE_PLACES c = short _ _ c.if-lengths-ne-TABLE_PLACES.true
 
-returns-2 : tie.Need-returns-2
-returns-2 c = outside _ _ c.before.before.if1.false _ c.before.judge-size.ensures c.if2.true
+pub returns-then-cause-ne-NONE : goal.returns-then-cause-ne-NONE
+returns-then-cause-ne-NONE c = outside _ _ c.if-lengths-ne-TABLE_PLACES.false _ c.judge_size-cause.ensures c.if-cause-ne-NONE.true
 
-returns-3 : tie.Need-returns-3
-returns-3 c =
-    let s = c.before.before in
-    sym (judged _ _ s.before.before.if1.false _ s.before.judge-size.ensures s.if2.false
-    ∙ rw (← c.before.table-is-monge.ensures, c.if3.true))
+pub returns-then-table_is_monge : goal.returns-then-table_is_monge
+returns-then-table_is_monge c =
+    sym (judged _ _ c.if-lengths-ne-TABLE_PLACES.false _ c.judge_size-cause.ensures c.if-cause-ne-NONE.false
+    ∙ rw (← c.table_is_monge.ensures, c.if-table_is_monge.true))
 
-returns-4 : tie.Need-returns-4
-returns-4 c =
-    let s = c.before.before in
-    sym (judged _ _ s.before.before.if1.false _ s.before.judge-size.ensures s.if2.false
-    ∙ rw (← c.before.table-is-monge.ensures, c.if3.false))
-
-pub judge_blocks_spec : {M : Type 1} → statement M
-judge_blocks_spec =
-    tie.close (tie.spec returns (λ c κs. search rules) returns-2 (λ c κs. search rules) returns-3 returns-4)
+pub returns : goal.returns
+returns c =
+    sym (judged _ _ c.if-lengths-ne-TABLE_PLACES.false _ c.judge_size-cause.ensures c.if-cause-ne-NONE.false
+    ∙ rw (← c.table_is_monge.ensures, c.if-table_is_monge.false))

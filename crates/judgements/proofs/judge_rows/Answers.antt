@@ -14,8 +14,7 @@ use Rattle.definitions.specs.Judgement.{judge_row, judge_rows}
 use Rattle.definitions.proofs.Laws.Causes.{refused, passed, last}
 use Rattle.monge.specs.PieceTables.{length_rows, row_in_lem}
 use Rattle.monge.specs.Matrix.{rows_in}
-use Rattle.judgements.proofs.judge_rows.Statement.{statement}
-use Rattle.judgements.proofs.judge_rows.Tie as tie
+use Rattle.judgements.proofs.judge_rows.Goals as goal
 
 module _ (m : ℕ) (lengths : List ℕ) (i : ℕ) (e : judge_rows 0 (rows_in m lengths) ≡ judge_rows i (drop i (rows_in m lengths))) (l : i < m)
     (r : ℕ) (h : r ≡ judge_row i (take (row_places * i + m - row_places * i) (drop (row_places * i) lengths))) where
@@ -33,29 +32,18 @@ module _ (m : ℕ) (lengths : List ℕ) (i : ℕ) (e : judge_rows 0 (rows_in m l
   went : r ≡ 0 → judge_rows 0 (rows_in m lengths) ≡ judge_rows (i + 1) (drop (i + 1) (rows_in m lengths))
   went z = next ∙ passed r _ z ∙ last _
 
-abbrev invariant-loop : tie.invariant-loop
-invariant-loop m lengths i₀ i = (i ≤ m) × (judge_rows 0 (rows_in m lengths) ≡ judge_rows i (drop i (rows_in m lengths)))
+pub loop-i-init : goal.loop-i-init
+loop-i-init c = (search rules, refl)
 
-abbrev decreases-loop : tie.decreases-loop
-decreases-loop m lengths i₀ i = m - i
+pub returns-then-cause-ne-NONE : goal.returns-then-cause-ne-NONE
+returns-then-cause-ne-NONE c = stopped _ _ c.loop-i.i c.loop-i.invariant.1 c.loop-i-test.true _ c.judge_row-cause.ensures c.if-cause-ne-NONE.true
 
-loop-holds : tie.Need-loop-init invariant-loop decreases-loop
-loop-holds c = (search rules, refl)
+pub loop-i-preserved : goal.loop-i-preserved
+loop-i-preserved c = (search rules, went _ _ c.loop-i.i c.loop-i.invariant.1 c.loop-i-test.true _ c.judge_row-cause.ensures c.if-cause-ne-NONE.false)
 
-returns : tie.Need-returns invariant-loop decreases-loop
-returns c = let l = c.before.before.before.before in stopped _ _ l.loop.i l.loop.invariant.1 c.before.before.before.loop-test.true _ c.before.judge-row.ensures c.if1.true
-
-loop-again : tie.Need-loop-preserved invariant-loop decreases-loop
-loop-again c = let l = c.before.before.before.before in (search rules, went _ _ l.loop.i l.loop.invariant.1 c.before.before.before.loop-test.true _ c.before.judge-row.ensures c.if1.false)
-
-returns-2 : tie.Need-returns-2 invariant-loop decreases-loop
+pub returns : goal.returns
 unfolding judge_rows
-returns-2 c =
-    let a = c.before.before.before.args in
-    let h : length (rows_in a.m a.lengths.now) ≤ c.before.loop.i = omega (arith, length_rows a.m a.lengths.now) in
-    rw (c.before.loop.invariant.1, drop_of_length-le _ h)
-
-pub judge_rows_spec : {M : Type 1} → statement M
-judge_rows_spec =
-    tie.close (tie.spec invariant-loop decreases-loop loop-holds (λ c. search rules) (λ c. search rules) (λ c. search rules) (λ c. search rules)
-    (λ c. search rules) (λ c. search rules) (λ c κs. search rules) returns (λ c. search rules) (λ c. search rules) loop-again returns-2)
+returns c =
+    let a = c.args in
+    let h : length (rows_in a.m a.lengths.now) ≤ c.loop-i.i = omega (arith, length_rows a.m a.lengths.now) in
+    rw (c.loop-i.invariant.1, drop_of_length-le _ h)
