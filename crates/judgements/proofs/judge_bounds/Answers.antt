@@ -1,5 +1,4 @@
 -- `judge_bounds` meets its contract: n, then p.
-use borrow.Author.Rules.{rules}
 use Rattle.definitions.specs.Judgement.{judge_bounds}
 use Rattle.judgements.proofs.judge_bounds.Goals.{else-is_within-via-then-is_within+else-is_within-2, else-is_within-via-else-is_within}
 use Rattle.judgements.proofs.judge_bounds.Goals as goal
@@ -12,6 +11,6 @@ pub returns : goal.returns
 unfolding judge_bounds
 returns c =
     elim c.else-is_within.branch [
-      else-is_within-via-then-is_within+else-is_within-2 w ↦ rw (← c.is_within.ensures, ← w.is_within-then-is_within.ensures, w.if-is_within.true, w.if-is_within-2.false)
+      | else-is_within-via-then-is_within+else-is_within-2 w ↦ rw (← c.is_within.ensures, ← w.is_within-then-is_within.ensures, w.if-is_within.true, w.if-is_within-2.false)
       | else-is_within-via-else-is_within w ↦ rw (← c.is_within.ensures, w.if-is_within.false)
     ]

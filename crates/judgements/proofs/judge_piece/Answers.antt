@@ -5,8 +5,7 @@ use mathlib.Core.Logic.{◌≢◌, ⊎_elim}
 use mathlib.Core.List.{List}
 use Prim.Native.Nat.{ℕ, ◌≤◌}
 use native.Mathlib.Omega.{arith}
-use borrow.Author.Rules.{rules}
-use borrow.Author.Tests.{eq-eqb, ne_eqb, eqb-true, not-true, not-false}
+use borrow.Author.Tests.{ne_eqb, eq-eqb, ne_eqb}
 use lib.Dec.{eqb}
 use lib.ListN.{length, take}
 use lib.Seq.{length-take-le}
@@ -56,10 +55,10 @@ module _ (n m : ℕ) (vertices lengths : List ℕ) where
             ∙ sym (judged ∙ passed _ _ size ∙ passed _ _ line ∙ passed _ _ rows ∙ last _)
 
 pub returns-then-vertices-ne-ROW_PLACES : goal.returns-then-vertices-ne-ROW_PLACES
-returns-then-vertices-ne-ROW_PLACES c = ⊎_elim (λ w. narrow _ _ _ _ w.taken) (λ w. short _ _ _ _ (not-true _ w.1.taken)) c.then-vertices-ne-ROW_PLACES.either
+returns-then-vertices-ne-ROW_PLACES c = ⊎_elim (λ w. narrow _ _ _ _ w) (λ w. short _ _ _ _ (ne_eqb _ _ w.1)) c.then-vertices-ne-ROW_PLACES.either
 
 pub returns-then-size-ne-NONE : goal.returns-then-size-ne-NONE
-returns-then-size-ne-NONE c = outside _ _ _ _ c.if-vertices-ne-ROW_PLACES.false (eqb-true _ _ (c.if-lengths-ne-TABLE_PLACES.false)) _ c.judge_size-size.ensures c.if-size-ne-NONE.true
+returns-then-size-ne-NONE c = outside _ _ _ _ c.if-vertices-ne-ROW_PLACES.false c.if-lengths-ne-TABLE_PLACES.false _ c.judge_size-size.ensures c.if-size-ne-NONE.true
 
 pub slice_bounds-judge_vertices-end : goal.slice_bounds-judge_vertices-end
 slice_bounds-judge_vertices-end c =
@@ -68,13 +67,13 @@ slice_bounds-judge_vertices-end c =
     sym (length-take-le a.m a.vertices.now h)
 
 pub returns-then-line-ne-NONE : goal.returns-then-line-ne-NONE
-returns-then-line-ne-NONE c = wrong_vertex _ _ _ _ c.if-vertices-ne-ROW_PLACES.false (eqb-true _ _ (c.if-lengths-ne-TABLE_PLACES.false)) (sym c.judge_size-size.ensures ∙ c.if-size-ne-NONE.false) _ c.judge_vertices-line.ensures c.if-line-ne-NONE.true
+returns-then-line-ne-NONE c = wrong_vertex _ _ _ _ c.if-vertices-ne-ROW_PLACES.false c.if-lengths-ne-TABLE_PLACES.false (sym c.judge_size-size.ensures ∙ c.if-size-ne-NONE.false) _ c.judge_vertices-line.ensures c.if-line-ne-NONE.true
 
 pub judge_rows-rows-requires : goal.judge_rows-rows-requires
-judge_rows-rows-requires c = ((size_in_lem _ (sym c.judge_size-size.ensures ∙ c.if-size-ne-NONE.false)).1, eqb-true _ _ (c.if-lengths-ne-TABLE_PLACES.false))
+judge_rows-rows-requires c = ((size_in_lem _ (sym c.judge_size-size.ensures ∙ c.if-size-ne-NONE.false)).1, c.if-lengths-ne-TABLE_PLACES.false)
 
 pub returns-then-rows-ne-NONE : goal.returns-then-rows-ne-NONE
-returns-then-rows-ne-NONE c = wrong_row _ _ _ _ c.if-vertices-ne-ROW_PLACES.false (eqb-true _ _ (c.if-lengths-ne-TABLE_PLACES.false)) (sym c.judge_size-size.ensures ∙ c.if-size-ne-NONE.false) (sym c.judge_vertices-line.ensures ∙ c.if-line-ne-NONE.false) _ c.judge_rows-rows.ensures c.if-rows-ne-NONE.true
+returns-then-rows-ne-NONE c = wrong_row _ _ _ _ c.if-vertices-ne-ROW_PLACES.false c.if-lengths-ne-TABLE_PLACES.false (sym c.judge_size-size.ensures ∙ c.if-size-ne-NONE.false) (sym c.judge_vertices-line.ensures ∙ c.if-line-ne-NONE.false) _ c.judge_rows-rows.ensures c.if-rows-ne-NONE.true
 
 pub returns : goal.returns
-returns c = blocks _ _ _ _ c.if-vertices-ne-ROW_PLACES.false (eqb-true _ _ (c.if-lengths-ne-TABLE_PLACES.false)) (sym c.judge_size-size.ensures ∙ c.if-size-ne-NONE.false) (sym c.judge_vertices-line.ensures ∙ c.if-line-ne-NONE.false) _ c.judge_blocks.ensures (sym c.judge_rows-rows.ensures ∙ c.if-rows-ne-NONE.false)
+returns c = blocks _ _ _ _ c.if-vertices-ne-ROW_PLACES.false c.if-lengths-ne-TABLE_PLACES.false (sym c.judge_size-size.ensures ∙ c.if-size-ne-NONE.false) (sym c.judge_vertices-line.ensures ∙ c.if-line-ne-NONE.false) _ c.judge_blocks.ensures (sym c.judge_rows-rows.ensures ∙ c.if-rows-ne-NONE.false)

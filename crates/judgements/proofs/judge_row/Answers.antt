@@ -3,8 +3,7 @@ use mathlib.Core.Path.{◌≡◌, sym, ◌∙◌}
 use mathlib.Core.Bool.{true, false, and-false}
 use mathlib.Core.List.{List}
 use Prim.Native.Nat.{ℕ}
-use borrow.Author.Rules.{rules}
-use borrow.Author.Tests.{ne_eqb, eq-eqb, not-true, not-false}
+use borrow.Author.Tests.{ne_eqb, eq-eqb}
 use lib.Dec.{eqb}
 use lib.ListN.{get_or, get_or-eq_default}
 use Rattle.definitions.specs.Lists.{every}
@@ -36,6 +35,6 @@ pub returns : goal.returns
 returns c =
     let s = sound _ _ (sym c.lengths_fit.ensures ∙ c.if-not-lengths_fit.false) in
     elim c.else-i-row.branch [
-      else-i-row-via-then-i-row+else-row-i-ne0 w ↦ s (eq-eqb _ _ w.if-row-i-ne0.false)
+      | else-i-row-via-then-i-row+else-row-i-ne0 w ↦ s (eq-eqb _ _ w.if-row-i-ne0.false)
       | else-i-row-via-else-i-row w ↦ s (eq-eqb _ _ (get_or-eq_default c.args.row.now 0 w.if-i-row.false))
     ]

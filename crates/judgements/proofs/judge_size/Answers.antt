@@ -1,5 +1,4 @@
 -- `judge_size` meets its contract.
-use borrow.Author.Rules.{rules}
 use Rattle.definitions.specs.Judgement.{judge_size}
 use Rattle.judgements.proofs.judge_size.Goals as goal
 

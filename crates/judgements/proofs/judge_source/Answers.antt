@@ -1,5 +1,4 @@
 -- `judge_source` meets its contract.
-use borrow.Author.Rules.{rules}
 use Rattle.definitions.specs.Judgement.{judge_source}
 use Rattle.judgements.proofs.judge_source.Goals as goal
 

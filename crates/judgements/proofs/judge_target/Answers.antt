@@ -1,5 +1,4 @@
 -- `judge_target` meets its contract.
-use borrow.Author.Rules.{rules}
 use Rattle.definitions.specs.Judgement.{judge_target}
 use Rattle.judgements.proofs.judge_target.Goals as goal
 

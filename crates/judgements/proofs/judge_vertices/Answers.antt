@@ -1,10 +1,9 @@
 -- `judge_vertices`: the list is sound exactly if what the loop has not passed is.
 use mathlib.Core.Path.{◌≡◌, sym, ◌∙◌}
-use mathlib.Core.Bool.{Bool, true, false, not, ◌&&◌, and-false}
+use mathlib.Core.Bool.{true, false, not, ◌&&◌, and-false}
 use mathlib.Core.List.{List}
-use Prim.Native.Nat.{ℕ, ◌≤◌, ◌<◌, ◌+◌, ◌-◌}
+use Prim.Native.Nat.{ℕ, ◌<◌, ◌+◌, ◌-◌}
 use borrow.Author.Rules.{rules}
-use borrow.Author.Tests.{not-true, not-false}
 use lib.ListN.{length, get_or, take, drop, drop_of_length-le}
 use Rattle.definitions.specs.Lists.{every, mem, different, within}
 use Rattle.definitions.specs.Judgement.{judge_vertices}
@@ -36,7 +35,7 @@ returns-then-not-is_within c =
     let vs = c.args.vertices.now in
     let i = c.loop-i.i in
     elim c.then-not-is_within.branch [
-      then-not-is_within-via-then-not-is_within w ↦ outside _ vs i c.loop-i.invariant.1 c.loop-i-test.true (sym c.is_within.ensures ∙ w.if-not-is_within.true)
+      | then-not-is_within-via-then-not-is_within w ↦ outside _ vs i c.loop-i.invariant.1 c.loop-i-test.true (sym c.is_within.ensures ∙ w.if-not-is_within.true)
       | then-not-is_within-via-else-not-is_within+then-stands_in w ↦ twice _ vs i c.loop-i.invariant.1 c.loop-i-test.true (sym w.stands_in.ensures ∙ w.if-stands_in.true)
     ]
 

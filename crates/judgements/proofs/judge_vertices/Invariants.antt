@@ -1,15 +1,10 @@
 -- `judge_vertices`: the list is sound exactly if what the loop has not passed is.
-use mathlib.Core.Path.{◌≡◌, sym, ◌∙◌}
-use mathlib.Core.Bool.{Bool, true, false, not, ◌&&◌, and-false}
-use mathlib.Core.Logic.{⊎_elim}
+use mathlib.Core.Path.{◌≡◌}
+use mathlib.Core.Bool.{Bool, ◌&&◌}
 use mathlib.Core.List.{List}
-use Prim.Native.Nat.{ℕ, ◌≤◌, ◌<◌, ◌+◌, ◌-◌}
-use borrow.Author.Rules.{rules}
-use borrow.Author.Tests.{not-true, not-false}
-use lib.ListN.{length, get_or, take, drop, drop_of_length-le}
-use Rattle.definitions.specs.Lists.{every, mem, different, within}
-use Rattle.definitions.specs.Judgement.{judge_vertices}
-use Rattle.judgements.proofs.VertexTests.{every_next, different_next, rest_part, and_inner}
+use Prim.Native.Nat.{ℕ, ◌≤◌, ◌-◌}
+use lib.ListN.{length, drop}
+use Rattle.definitions.specs.Lists.{every, different, within}
 use Rattle.judgements.proofs.judge_vertices.Given as goal
 
 abbrev pub sound : ℕ → List ℕ → Bool

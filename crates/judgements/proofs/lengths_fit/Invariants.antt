@@ -1,13 +1,10 @@
 -- `lengths_fit`: a table may hold all lengths exactly if it may hold those passed, as the loop has found, and those left.
-use mathlib.Core.Path.{◌≡◌, refl, sym, ◌∙◌}
-use mathlib.Core.Bool.{Bool, ◌&&◌, and-true, and_assoc}
-use mathlib.Core.List.{List}
-use Prim.Native.Nat.{ℕ, ◌≤◌, ◌<◌, ◌+◌, ◌-◌}
-use borrow.Author.Rules.{rules}
-use lib.ListN.{length, get_or, drop, drop_of_length-le}
+use mathlib.Core.Path.{◌≡◌}
+use mathlib.Core.Bool.{◌&&◌}
+use Prim.Native.Nat.{◌≤◌, ◌-◌}
+use lib.ListN.{length, drop}
 use Rattle.definitions.specs.Lists.{every}
 use Rattle.definitions.specs.Metres.{is_length}
-use Rattle.judgements.proofs.VertexTests.{every_next}
 use Rattle.judgements.proofs.lengths_fit.Given as goal
 
 abbrev pub invariant-loop-k : goal.invariant-loop-k

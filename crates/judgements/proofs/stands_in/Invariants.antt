@@ -1,11 +1,8 @@
 -- `stands_in`: the number is in the list exactly if it is in what the loop has not passed.
-use mathlib.Core.Path.{◌≡◌, ◌∙◌}
+use mathlib.Core.Path.{◌≡◌}
 use Prim.Native.Nat.{◌≤◌, ◌-◌}
-use borrow.Author.Rules.{rules}
-use borrow.Author.Tests.{eq-eqb, ne_eqb}
-use lib.ListN.{length, drop, drop_of_length-le}
+use lib.ListN.{length, drop}
 use Rattle.definitions.specs.Lists.{mem}
-use Rattle.judgements.proofs.VertexTests.{mem_next}
 use Rattle.judgements.proofs.stands_in.Given as goal
 
 abbrev pub invariant-loop-i : goal.invariant-loop-i
