@@ -7,7 +7,7 @@ use borrow.Author.Tests.{le-leb, lt-leb}
 use Rattle.definitions.specs.Limits.{max_size}
 use Rattle.definitions.specs.Lists.{within}
 use Rattle.splits.specs.Table.{first_split}
-use Rattle.splits.specs.Halving.{counted, first_split_lem}
+use Rattle.splits.proofs.Halving.{counted, first_split_lem}
 use Rattle.splits.proofs.first_split.Goals as goal
 
 square : (k : ℕ) → k ≤ k * k

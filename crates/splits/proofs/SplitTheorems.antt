@@ -8,8 +8,10 @@ use Rattle.definitions.specs.Limits.{max_size}
 use Rattle.definitions.specs.Lists.{total, up_from, Every}
 use Rattle.definitions.specs.Blocks.{splits_of, all_splits, windows_of, logarithm}
 use Rattle.splits.specs.Table.{no_split}
-use Rattle.splits.specs.Halving.{listed, counted, Halved, halved}
-use Rattle.splits.specs.Windows.{tally, pair_once, Inside, windows_inside, rows_few, cols_few, Logarithm, logarithm_is}
+use Rattle.splits.proofs.Halving.{listed, counted, halved}
+use Rattle.splits.specs.Halving.{Halved}
+use Rattle.splits.specs.Windows.{tally, Inside, Logarithm}
+use Rattle.splits.proofs.Windows.{pair_once, windows_inside, rows_few, cols_few, logarithm_is}
 
 -- The list that the code's constant equals (`table` promises it) is the splits of size 1, then of size 2, up to 24.
 the_list : all_splits ≡ flat_map splits_of (up_from 1 max_size)
