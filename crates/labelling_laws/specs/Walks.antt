@@ -1,12 +1,11 @@
--- Walks over the arcs of blocks.
+-- The arcs of walks over blocks, and of routes. The law of walks is in proofs/.
 --   ArcOf BlockArc        an arc of a block: from the vertex of a row to that of a column
 --   IsBlockArc Arrives    an arc of a route: it is one of a block of its piece; it starts at a settled vertex
---   walk_map              from one kind of arc to another
 use Rattle.std.specs.Prelude.{◌≡◌, List, ℕ, ◌<◌, get_or, length}
 use Rattle.std.proofs.Math.Option.{some}
 use Rattle.definitions.specs.Limits.{sum}
 use Rattle.definitions.specs.Metres.{IsNumber}
-use Rattle.definitions.specs.Network.{Walk, stay, then, RouteArc}
+use Rattle.definitions.specs.Network.{RouteArc}
 use Rattle.definitions.specs.Blocks.{Block, no_block}
 use Rattle.definitions.specs.Labelling.{Settled, label_of}
 
@@ -38,7 +37,3 @@ pub record Arrives (bs : List Block) (xs : List Settled) (v l : ℕ) (a : RouteA
   pub to_is : a.to ≡ v
   pub sum_is : l ≡ sum before a.length
   pub is_arc : IsBlockArc bs a
-
-pub walk_map : {A B : ℕ → ℕ → ℕ → Type 0} → ((u v l : ℕ) → A u v l → B u v l) → {s v l : ℕ} → Walk A s v l → Walk B s v l
-walk_map f stay = stay
-walk_map f (then {u} {l} {v} {l'} p a) = then (walk_map f p) (f u v l' a)

@@ -28,13 +28,14 @@ use Rattle.definitions.specs.Entries.{judge_labelling, route_network}
 use Rattle.definitions.specs.PlainPromises.{PlainRoute}
 use Rattle.labelling_laws.specs.Acceptance.{Accepted}
 use Rattle.labelling_laws.specs.OneBlock.{inserted_most}
-use Rattle.labelling_laws.specs.Ends as ends
-use Rattle.labelling_laws.specs.LoopLaws.{chosen_none}
-use Rattle.labelling_laws.specs.BlockTraces.{Made, made}
-use Rattle.labelling_laws.specs.Routes.{route_walk}
-use Rattle.labelling_laws.specs.PieceBlocks as network
-use Rattle.labelling_laws.specs.LentNetworks as lent
-use Rattle.labelling_laws.specs.ListedNumbers as listed
+use Rattle.labelling_laws.proofs.Ends as ends
+use Rattle.labelling_laws.proofs.LoopLaws.{chosen_none}
+use Rattle.labelling_laws.specs.BlockTraces.{Made}
+use Rattle.labelling_laws.proofs.BlockTraces.{made}
+use Rattle.labelling_laws.proofs.Routes.{route_walk}
+use Rattle.labelling_laws.proofs.PieceBlocks as network
+use Rattle.labelling_laws.proofs.LentNetworks as lent
+use Rattle.labelling_laws.proofs.ListedNumbers as listed
 
 module _ (n : ℕ) (pieces : List Piece) (source : ℕ) (ok : Accepted n pieces source) where
   -- After any number of steps every answer of every block has code 0: no activation was refused, and no extraction found nothing.

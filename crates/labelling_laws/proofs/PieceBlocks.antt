@@ -22,16 +22,20 @@ use Rattle.definitions.specs.Labelling.{Settled, State, label_of, columns, label
 use Rattle.definitions.proofs.Laws.Causes.{bounds_in, source_in}
 use Rattle.logic.specs.Tests.{Equal, equal, differ, equality}
 use Rattle.basics.specs.ListLaws.{every_map, Different, is_different, counted, count_same}
-use Rattle.labelling_laws.specs.Labels.{Status, settled, unsettled, status, labelled_mem, unlabelled, arc_none}
+use Rattle.labelling_laws.specs.Labels.{Status, settled, unsettled}
+use Rattle.labelling_laws.proofs.Labels.{status, labelled_mem, unlabelled, arc_none}
 use Rattle.labelling_laws.specs.OneBlock.{inserted_most}
 use Rattle.labelling_laws.specs.Walks.{IsBlockArc}
 use Rattle.labelling_laws.specs.BlockSteps.{Setting}
-use Rattle.labelling_laws.specs.Ends.{labels_short, labels_in, reached_few, vertices_in, vertices_differ, extractions_bound, insertions_bound}
-use Rattle.labelling_laws.specs.Exact.{BlockDistance, labels_exact}
-use Rattle.labelling_laws.specs.Acceptance.{Accepted, Suits, suits}
-use Rattle.labelling_laws.specs.Arcs.{blocks_fit, PieceArc, of_piece, walk_to_blocks, walk_to_pieces, all_cols, few_closed, open_none, all_inserted}
-use Rattle.labelling_laws.specs.LoopLaws.{labels_at, labels_read}
-use Rattle.labelling_laws.specs.Routes.{joined_map, block_route, source_arc, route_none}
+use Rattle.labelling_laws.proofs.Ends.{labels_short, labels_in, reached_few, vertices_in, vertices_differ, extractions_bound, insertions_bound}
+use Rattle.labelling_laws.specs.Exact.{BlockDistance}
+use Rattle.labelling_laws.proofs.Exact.{labels_exact}
+use Rattle.labelling_laws.specs.Acceptance.{Accepted, Suits}
+use Rattle.labelling_laws.proofs.Acceptance.{suits}
+use Rattle.labelling_laws.proofs.Arcs.{blocks_fit, of_piece, walk_to_blocks, walk_to_pieces, all_cols, few_closed, open_none, all_inserted}
+use Rattle.labelling_laws.specs.Arcs.{PieceArc}
+use Rattle.labelling_laws.proofs.LoopLaws.{labels_at, labels_read}
+use Rattle.labelling_laws.proofs.Routes.{joined_map, block_route, source_arc, route_none}
 
 -- ---- vertices from 1 on, as places from 0 on
 

@@ -19,8 +19,9 @@ use Rattle.logic.specs.Tests.{Equal, equal, differ, equality}
 use Rattle.basics.specs.Buffers.{buffers_are}
 use Rattle.basics.specs.Sequences.{length_up_from}
 use Rattle.basics.specs.PiecePlaces.{piece_size}
-use Rattle.labelling_laws.specs.Acceptance.{Accepted, size_passes}
-use Rattle.labelling_laws.specs.PieceBlocks.{routed}
+use Rattle.labelling_laws.specs.Acceptance.{Accepted}
+use Rattle.labelling_laws.proofs.Acceptance.{size_passes}
+use Rattle.labelling_laws.proofs.PieceBlocks.{routed}
 
 module _ (n : ℕ) (sizes vertices lengths : List ℕ) where
   from_pass : (d k : ℕ) → row_places * (d + k) ≤ length vertices → judge_from n sizes vertices lengths d k ≡ 0

@@ -22,9 +22,11 @@ use Rattle.definitions.proofs.Laws.LeastLaws.{found_is}
 use Rattle.definitions.specs.Labelling.{BlockState, extraction, fresh_block, apply, least_of, activate_vertex, settled_at, State, label_of, settle_as, settle, no_block_state, chosen, place_in, extract_from, advance, steps, start, columns, labelling, reached, extractions, insertions}
 use Rattle.definitions.proofs.Laws.Members.{every_imp}
 use Rattle.basics.specs.ListLaws.{every_map, map_same, total_set, total_le, Different}
-use Rattle.labelling_laws.specs.Labels.{label_new, labelled}
-use Rattle.labelling_laws.specs.OneBlock.{Fit, fresh_fine, Good, Welcome, welcome, activate_extracted, extract_length, extracted_bound, inserted_most, inserted_bound}
-use Rattle.labelling_laws.specs.BlockSteps.{block_at, column_vertex, Labelled, Inv, settled_few, Choice, choice, between, Setting, Holds, steps_hold}
+use Rattle.labelling_laws.proofs.Labels.{label_new, labelled}
+use Rattle.labelling_laws.specs.OneBlock.{Fit, Good, Welcome, inserted_most}
+use Rattle.labelling_laws.proofs.OneBlock.{fresh_fine, welcome, activate_extracted, extract_length, extracted_bound, inserted_bound}
+use Rattle.labelling_laws.specs.BlockSteps.{block_at, column_vertex, Labelled, Inv, Choice, Setting, Holds}
+use Rattle.labelling_laws.proofs.BlockSteps.{settled_few, choice, between, steps_hold}
 
 -- ---- each step extracts one column
 

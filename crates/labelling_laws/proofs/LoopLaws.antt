@@ -20,7 +20,8 @@ use Rattle.logic.specs.Tests.{Equal, equal, differ, equality}
 use Rattle.basics.specs.ListLaws.{every_all}
 use Rattle.heap_laws.proofs.Extract.{found_none}
 use Rattle.basics.specs.Sequences.{length_up_from, get_or_up_from, map_at}
-use Rattle.labelling_laws.specs.Labels.{label_new, label_other, Status, settled, unsettled, status}
+use Rattle.labelling_laws.proofs.Labels.{label_new, label_other, status}
+use Rattle.labelling_laws.specs.Labels.{Status, settled, unsettled}
 use Rattle.labelling_laws.specs.BlockSteps.{block_at, column_vertex}
 
 -- ---- the start and a step

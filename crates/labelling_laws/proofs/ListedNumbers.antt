@@ -14,8 +14,9 @@ use Rattle.definitions.specs.Labelling.{label_of, labelling, reached, extraction
 use Rattle.definitions.specs.Fields.{max_column, decimal, right_justified, nine_columns}
 use Rattle.definitions.proofs.Laws.Causes.{bounds_in, source_in}
 use Rattle.basics.specs.ListLaws.{count_le}
-use Rattle.labelling_laws.specs.Acceptance.{Accepted, Suits, suits}
-use Rattle.labelling_laws.specs.PieceBlocks as network
+use Rattle.labelling_laws.specs.Acceptance.{Accepted, Suits}
+use Rattle.labelling_laws.proofs.Acceptance.{suits}
+use Rattle.labelling_laws.proofs.PieceBlocks as network
 
 -- `-` is for a number that they do not hold
 pub written_digits : (x : ℕ) → x ≤ max_column → nine_columns x ≡ right_justified column_bytes (decimal x)
