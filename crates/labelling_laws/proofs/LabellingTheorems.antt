@@ -12,6 +12,7 @@
 -- `Accepted n pieces source` says that no cause turns away the network of n vertices with these pieces, nor the source
 -- (judge_bounds, judge_piece and judge_source, the definitions by which the code judges, are 0).
 use Rattle.std.specs.Prelude.{◌≡◌, refl, not, List, [], ◌∷◌, map, ◌≢◌, ℕ, suc, ◌+◌, ◌*◌, ◌≤◌, ◌<◌, eqb, get_or, length}
+use Rattle.std.proofs.Common.{arith}
 use Rattle.std.proofs.Math.Option.{none, some}
 use Rattle.definitions.specs.Limits.{max_label, label_places, column_bytes, unreached, no_path}
 use Rattle.definitions.specs.Metres.{is_length, metres_of, plus, at_most}
@@ -27,6 +28,8 @@ use Rattle.definitions.specs.Fields.{max_column, decimal, right_justified, nine_
 use Rattle.definitions.specs.Entries.{judge_labelling, route_network}
 use Rattle.definitions.specs.PlainPromises.{PlainRoute}
 use Rattle.labelling_laws.specs.Acceptance.{Accepted}
+use Rattle.labelling_laws.proofs.Acceptance.{suits}
+use Rattle.labelling_laws.proofs.Arcs.{open_none, all_inserted}
 use Rattle.labelling_laws.specs.OneBlock.{inserted_most}
 use Rattle.labelling_laws.proofs.Ends as ends
 use Rattle.labelling_laws.proofs.LoopLaws.{chosen_none}
@@ -90,9 +93,11 @@ module _ (n : ℕ) (pieces : List Piece) (source : ℕ) (ok : Accepted n pieces 
   insertions_most = network.insertions_most n pieces source ok
 
   -- Where no table shows that there is no path (document 02, request 7), no block has a closed column; and all blocks of a piece have at most m·⌈log₂ m⌉
-  -- rows and as many columns.
+  -- rows and as many columns. The proof cites the parts and not `insertions_weight`, so that each of the two is refused by itself where its bound is too low.
   pub few_insertions : Open pieces → insertions (labelling (blocks pieces) source) ≤ 5 * weight pieces
-  few_insertions = network.insertions_weight n pieces source ok
+  few_insertions o =
+      let su = suits n pieces ok.pieces_pass in
+      omega (arith, network.insertions_most n pieces source ok, all_inserted n 0 pieces su (open_none n pieces su o))
 
   -- Nine columns hold the four numbers of a listing's first line, and every label.
   pub counts_held : Every (λ x. x ≤ max_column)
