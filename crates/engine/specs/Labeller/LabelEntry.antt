@@ -29,7 +29,7 @@ use Rattle.labelling_laws.specs.Acceptance.{Accepted, size_passes, suits}
 use Rattle.labelling_laws.specs.Arcs.{blocks_fit}
 use Rattle.labelling_laws.specs.PieceBlocks.{setting}
 use Rattle.labelling_laws.specs.LentNetworks.{lent_accepted}
-use Rattle.labelling_laws.specs.LabellingTheorems as theorems
+use Rattle.labelling_laws.proofs.LabellingTheorems as theorems
 use Rattle.labelling_laws.specs.LabellingTheorems.{labels_are_distances, held_limited, reached_counts, few_extractions, few_insertions}
 use Rattle.engine.specs.Tree.TreeWords.{tree_words, idle}
 use Rattle.engine.specs.Labeller.Begins.{tables_for, prepared, fresh_arrays, begins}
