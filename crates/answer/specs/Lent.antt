@@ -19,10 +19,11 @@ use Rattle.definitions.specs.Judgement.{judge_bounds, judge_source, judge_target
 use Rattle.definitions.specs.Entries.{AfterLabel, AfterRoute, has_places, judge_buffers, judge_labelling, label_answer, label_network, judge_route, arcs_of, route_answer, route_network, judge_lent, listing_line, state_listing, route_listing}
 use Rattle.definitions.proofs.Laws.Causes.{no_cause, bounds_in}
 use Rattle.labelling_laws.specs.Acceptance.{Accepted}
-use Rattle.labelling_laws.specs.Labels.{Status, settled, unsettled, status}
-use Rattle.labelling_laws.specs.LoopLaws.{labels_read}
-use Rattle.labelling_laws.specs.LentNetworks.{lent_target}
-use Rattle.labelling_laws.specs.LabellingTheorems.{routes, route_unreached}
+use Rattle.labelling_laws.specs.Labels.{Status, settled, unsettled}
+use Rattle.labelling_laws.proofs.Labels.{status}
+use Rattle.labelling_laws.proofs.LoopLaws.{labels_read}
+use Rattle.labelling_laws.proofs.LentNetworks.{lent_target}
+use Rattle.labelling_laws.proofs.LabellingTheorems.{routes, route_unreached}
 use Rattle.answer.specs.Lines.{lines_from, vertex_lines, arc_lines, arcs_lines}
 
 -- no cause turns the network in these buffers away, nor the source

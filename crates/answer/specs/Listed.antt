@@ -31,7 +31,7 @@ use Rattle.definitions.proofs.Laws.ReadLaws.{bind_value, require_value}
 use Rattle.definitions.specs.Written.{SoundPiece, SoundPlan}
 use Rattle.logic.specs.Tests.{Truth, holds, fails, truth}
 use Rattle.labelling_laws.specs.Acceptance.{Accepted}
-use Rattle.labelling_laws.specs.Routes.{arcs_fit}
+use Rattle.labelling_laws.proofs.Routes.{arcs_fit}
 use Rattle.text.specs.PieceReading.{Shaped, Room, sizes_long, vertices_full, lengths_full}
 use Rattle.text.specs.Back.{pieces_back}
 use Rattle.text.specs.Plans.{plan_answer, After as AfterReading}

@@ -13,7 +13,8 @@ use Rattle.definitions.specs.Judgement.{judge_size, judge_blocks, judge_piece, p
 use Rattle.definitions.specs.Entries.{has_places}
 use Rattle.definitions.proofs.Laws.Causes.{passed, last, size_in_lem}
 use Rattle.logic.specs.Tests.{Equal, equal, differ, equality}
-use Rattle.splits.specs.Windows.{Inside, windows_inside}
+use Rattle.splits.specs.Windows.{Inside}
+use Rattle.splits.proofs.Windows.{windows_inside}
 use Rattle.monge.specs.Matrix.{at, rows_in, passes_in}
 use Rattle.basics.specs.Sequences.{length_up_from}
 use Rattle.monge.specs.PieceTables.{block_passes}

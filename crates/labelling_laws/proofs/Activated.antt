@@ -14,8 +14,10 @@ use Rattle.definitions.specs.Best.{by, least}
 use Rattle.definitions.specs.Model.{through, parent, is_activated}
 use Rattle.definitions.specs.Labelling.{place_of, Settled, label_of}
 use Rattle.logic.specs.Tests.{clash, Truth, holds, fails, truth, Equal, equal, differ, equality}
-use Rattle.heap_laws.specs.Lesser.{UpTo, up_to_lesser, up_to_right}
-use Rattle.heap_laws.specs.Parents.{through_some, row_label}
+use Rattle.heap_laws.specs.Lesser.{UpTo}
+use Rattle.heap_laws.proofs.Lesser.{up_to_lesser, up_to_right}
+use Rattle.heap_laws.proofs.Parents.{through_some}
+use Rattle.heap_laws.specs.Parents.{row_label}
 use Rattle.labelling_laws.proofs.VertexPlaces.{place_in}
 use Rattle.labelling_laws.specs.Activated.{activated_one, activated_by}
 

@@ -17,10 +17,10 @@ use Rattle.definitions.specs.Metres.{IsNumber}
 use Rattle.definitions.specs.Lists.{mem, total, up_from, Every}
 use Rattle.definitions.specs.Network.{Piece, entry, size_of, no_piece, Open, ArcIn, Arc, Walk}
 use Rattle.definitions.specs.Blocks.{Window, windows_of, rows_of, logarithm, Block, block_of, blocks_of, blocks_from, blocks, no_block, passes, weight}
-use Rattle.definitions.specs.Laws.MongeLaws.{is_monge_is}
-use Rattle.definitions.specs.Laws.Members.{every_imp}
+use Rattle.definitions.proofs.Laws.MongeLaws.{is_monge_is}
+use Rattle.definitions.proofs.Laws.Members.{every_imp}
 use Rattle.basics.specs.ListLaws.{every_at, every_append, every_map, Any, any_at, at_any, any_left, any_right, any_cases, any_map, any_back, total_le, total_append, Different}
-use Rattle.heap_laws.specs.Activate.{closed_none, closed_few}
+use Rattle.heap_laws.proofs.Activate.{closed_none, closed_few}
 use Rattle.splits.specs.Windows.{Inside, Spans}
 use Rattle.splits.proofs.Windows.{windows_inside, pair_once, spanned, rows_few, cols_few}
 use Rattle.basics.specs.ListPlaces.{different_at}

@@ -20,13 +20,15 @@ use Rattle.definitions.specs.Lists.{mem, Every}
 use Rattle.definitions.specs.Network.{Rectangle, stay, then, RouteArc}
 use Rattle.definitions.specs.Blocks.{Block, no_block}
 use Rattle.definitions.specs.Best.{Best, nobody, by, least, least_from, Lowest}
-use Rattle.definitions.specs.Laws.LeastLaws.{Found, found_is}
+use Rattle.definitions.proofs.Laws.LeastLaws.{Found, found_is}
 use Rattle.definitions.specs.Model.{Model, parent, available}
 use Rattle.definitions.specs.Labelling.{BlockState, extraction, fresh_block, apply, least_of, activate_vertex, Settled, settled_at, State, label_of, settle_as, settle, no_block_state, chosen, place_in, arc_at, arc_into, extract_from, advance, steps, start}
-use Rattle.definitions.specs.Laws.Members.{every_imp}
+use Rattle.definitions.proofs.Laws.Members.{every_imp}
 use Rattle.basics.specs.ListLaws.{every_at, every_set, every_snoc, every_map, every_all, map_same, map_back, Different, different_snoc, at_most}
-use Rattle.heap_laws.specs.Lesser.{From, from_each}
-use Rattle.heap_laws.specs.Parents.{available_parent, parent_row, parent_path, parent_activated, parent_sum, row_label}
+use Rattle.heap_laws.specs.Lesser.{From}
+use Rattle.heap_laws.proofs.Lesser.{from_each}
+use Rattle.heap_laws.proofs.Parents.{available_parent, parent_row, parent_path, parent_activated, parent_sum}
+use Rattle.heap_laws.specs.Parents.{row_label}
 use Rattle.labelling_laws.proofs.Labels.{label_old, label_new, status, labelled, unlabelled, own_labels}
 use Rattle.labelling_laws.specs.Labels.{Status, settled, unsettled}
 use Rattle.labelling_laws.proofs.Activated.{row_settled}

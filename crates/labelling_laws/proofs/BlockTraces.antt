@@ -10,7 +10,7 @@ use Rattle.definitions.specs.Best.{Best, nobody, by}
 use Rattle.definitions.specs.Model.{Call, Trace, extend, trace_from, trace}
 use Rattle.definitions.specs.Labelling.{BlockState, activation, extraction, fresh_block, apply, place_of, activate_at, activate_vertex, State, label_of, settle_as, settle, no_block_state, chosen, extract_from, advance, steps, start}
 use Rattle.basics.specs.ListLaws.{every_map, every_set}
-use Rattle.heap_laws.specs.ModelCalls.{trace_snoc}
+use Rattle.heap_laws.proofs.ModelCalls.{trace_snoc}
 use Rattle.labelling_laws.proofs.VertexPlaces.{at_place}
 use Rattle.labelling_laws.specs.BlockTraces.{Made}
 

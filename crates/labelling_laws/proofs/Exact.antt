@@ -9,7 +9,7 @@ use Rattle.definitions.specs.Lists.{mem}
 use Rattle.definitions.specs.Network.{Rectangle, Walk, stay, then}
 use Rattle.definitions.specs.Blocks.{Block}
 use Rattle.definitions.specs.Best.{Best, nobody, by}
-use Rattle.definitions.specs.Laws.LeastLaws.{Found, found_is}
+use Rattle.definitions.proofs.Laws.LeastLaws.{Found, found_is}
 use Rattle.definitions.specs.Model.{Model, parent, available}
 use Rattle.definitions.specs.Labelling.{BlockState, least_of, place_of, Settled, State, label_of, no_block_state, chosen, steps, start, columns, labelling}
 use Rattle.logic.specs.Tests.{Truth, holds, fails, truth}

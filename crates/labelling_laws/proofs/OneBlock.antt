@@ -18,17 +18,18 @@ use Rattle.definitions.specs.Network.{Rectangle, RouteArc}
 use Rattle.definitions.specs.Monge.{Monge, closed}
 use Rattle.definitions.specs.Blocks.{Block}
 use Rattle.definitions.specs.Best.{nobody, by, lesser, least, least_from, Lowest}
-use Rattle.definitions.specs.Laws.LeastLaws.{found_is}
+use Rattle.definitions.proofs.Laws.LeastLaws.{found_is}
 use Rattle.definitions.specs.Model.{Activation, Model, through, parent, available, is_activated, judge, step, activate, extract, Trace, extend}
 use Rattle.definitions.specs.Labelling.{BlockState, activation, extraction, fresh_block, apply, least_of, place_of, activate_at, activate_vertex, Settled, settled_at, label_of}
 use Rattle.logic.specs.Tests.{clash, Truth, holds, fails, truth, Equal, equal, differ, equality}
 use Rattle.basics.specs.ListLaws.{every_snoc, mem_snoc}
-use Rattle.heap_laws.specs.Lesser.{From, from_lesser}
-use Rattle.heap_laws.specs.Parents.{parent_snoc, through_from, available_parent}
-use Rattle.heap_laws.specs.ModelCalls.{step_activate, step_extract}
-use Rattle.heap_laws.specs.Sound.{fresh_sound, step_sound, activated_few, extracted_few}
-use Rattle.heap_laws.specs.Extract.{extract_here, extract_other}
-use Rattle.heap_laws.specs.TraceCounts.{extend_few}
+use Rattle.heap_laws.specs.Lesser.{From}
+use Rattle.heap_laws.proofs.Lesser.{from_lesser}
+use Rattle.heap_laws.proofs.Parents.{parent_snoc, through_from, available_parent}
+use Rattle.heap_laws.proofs.ModelCalls.{step_activate, step_extract}
+use Rattle.heap_laws.proofs.Sound.{fresh_sound, step_sound, activated_few, extracted_few}
+use Rattle.heap_laws.proofs.Extract.{extract_here, extract_other}
+use Rattle.heap_laws.proofs.TraceCounts.{extend_few}
 use Rattle.labelling_laws.proofs.VertexPlaces.{place_in}
 use Rattle.labelling_laws.specs.Activated.{activated_one, activated_by}
 use Rattle.labelling_laws.proofs.Activated.{activated_by_snoc, not_activated}

@@ -22,7 +22,7 @@ use Rattle.definitions.specs.Blocks.{Block}
 use Rattle.definitions.specs.Best.{Best, nobody, by}
 use Rattle.definitions.specs.Labelling.{Settled, settled_at, State, label_of, arc_of, chosen, extract_from, advance, steps, start, reached, arcs_to, route_to}
 use Rattle.definitions.specs.Entries.{arc_numbers, arcs_of}
-use Rattle.definitions.specs.Laws.Members.{every_imp}
+use Rattle.definitions.proofs.Laws.Members.{every_imp}
 use Rattle.logic.specs.Tests.{clash, Equal, equal, differ, equality}
 use Rattle.basics.specs.ListLaws.{every_snoc, total_append, different_snoc, mem_snoc, length_padded}
 use Rattle.labelling_laws.proofs.Labels.{label_old, label_new, status, which, labelled_mem, unlabelled, arc_old, arc_new}

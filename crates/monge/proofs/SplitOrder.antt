@@ -14,8 +14,9 @@ use Rattle.definitions.specs.Lists.{every}
 use Rattle.definitions.specs.Blocks.{Split, splits_of, all_splits, Window, windows, windows_of}
 use Rattle.splits.specs.declared.Split as code
 use Rattle.splits.specs.Table.{flattened, no_split, split_of, split_in, first_split}
-use Rattle.splits.specs.Halving.{size_count}
-use Rattle.splits.specs.Sizes.{Cut, cut_at, split_is}
+use Rattle.splits.proofs.Halving.{size_count}
+use Rattle.splits.specs.Sizes.{Cut}
+use Rattle.splits.proofs.Sizes.{cut_at, split_is}
 use Rattle.monge.specs.Matrix.{block_monge_in, passes_in}
 
 pub both_blocks : (lengths : List ℕ) (c : Split)

@@ -13,7 +13,8 @@ use Rattle.definitions.specs.Labelling.{place_of}
 use Rattle.basics.specs.ListLaws.{Different, every_at}
 use Rattle.basics.specs.ListPlaces.{different_at, place_of_none, place_of_at}
 use Rattle.basics.specs.PiecePlaces.{block_rows, row_vertex}
-use Rattle.splits.specs.Windows.{Inside, windows_inside}
+use Rattle.splits.specs.Windows.{Inside}
+use Rattle.splits.proofs.Windows.{windows_inside}
 use Rattle.preparation.specs.Numbering.{no_window}
 use Rattle.preparation.specs.Stretches.{Stretch, stretch_fits, stretch_window}
 

@@ -14,7 +14,8 @@ use Rattle.definitions.specs.Lists.{padded}
 use Rattle.definitions.specs.Blocks.{Window, windows_of}
 use Rattle.logic.specs.Tests.{split_at, Truth, holds, fails, truth}
 use Rattle.basics.specs.ListLaws.{every_at}
-use Rattle.splits.specs.Windows.{spans, tally, pair_once, Inside, windows_inside}
+use Rattle.splits.specs.Windows.{spans, tally, Inside}
+use Rattle.splits.proofs.Windows.{pair_once, windows_inside}
 use Rattle.preparation.specs.Prepared.{size_at, Placement, placements_of, place, numbers_from, part_numbers, part_places, max_blocks, parts_of, row_in, col_in, cols_in, row_count_in, row_of, col_of, blocks_up_to}
 use Rattle.preparation.specs.Numbers.{length_numbers}
 use Rattle.preparation.specs.Placements.{size_small, length_windows_of}

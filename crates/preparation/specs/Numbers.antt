@@ -15,7 +15,7 @@ use Rattle.definitions.specs.Lists.{total}
 use Rattle.definitions.specs.Blocks.{Split, splits_of, windows, windows_of}
 use Rattle.basics.specs.ListLaws.{total_append}
 use Rattle.splits.specs.Table.{no_split}
-use Rattle.splits.specs.Halving.{size_count}
+use Rattle.splits.proofs.Halving.{size_count}
 use Rattle.splits.specs.Sizes.{Cut}
 use Rattle.preparation.specs.Prepared.{Placement, place, split_placements, piece_placements, words, words_of, numbers, numbers_from, part_numbers, split_words, Stored}
 

@@ -21,7 +21,8 @@ use Rattle.definitions.specs.Judgement.{piece_at, pieces_of}
 use Rattle.definitions.proofs.Laws.Members.{every_is, all_at}
 use Rattle.logic.specs.Tests.{split_at}
 use Rattle.basics.specs.ListLaws.{every_at, length_padded}
-use Rattle.splits.specs.Windows.{Inside, windows_inside}
+use Rattle.splits.specs.Windows.{Inside}
+use Rattle.splits.proofs.Windows.{windows_inside}
 use Rattle.monge.specs.PieceTables.{entry_in}
 use Rattle.monge.specs.Matrix.{at, rows_in}
 use Rattle.basics.specs.Sequences.{get_or_each, length_up_from, map_at}

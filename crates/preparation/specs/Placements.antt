@@ -14,7 +14,7 @@ use Rattle.definitions.specs.Lists.{all, total}
 use Rattle.definitions.specs.Blocks.{splits, splits_of, Window, windows, windows_of}
 use Rattle.logic.specs.Tests.{and_right, Truth, holds, fails, truth}
 use Rattle.definitions.proofs.Laws.Members.{all_at}
-use Rattle.splits.specs.Halving.{size_count}
+use Rattle.splits.proofs.Halving.{size_count}
 use Rattle.preparation.specs.Prepared.{size_at, place, piece_placements, placements_up_to, words, words_of, piece_blocks, piece_words, blocks_up_to}
 use Rattle.preparation.specs.Numbers.{length_windows, words_append}
 

@@ -14,9 +14,10 @@ use Rattle.definitions.specs.Network.{Piece, RouteArc}
 use Rattle.definitions.specs.Blocks.{blocks}
 use Rattle.definitions.specs.Labelling.{State, label_of, arc_of, columns, labelling, reached, route_to}
 use Rattle.labelling_laws.specs.Acceptance.{Accepted}
-use Rattle.labelling_laws.specs.Ends.{labels_in}
-use Rattle.labelling_laws.specs.Routes.{Origin, source_itself, by_arc, origin, block_route, route_step}
-use Rattle.labelling_laws.specs.PieceBlocks.{setting, route, route_source}
+use Rattle.labelling_laws.proofs.Ends.{labels_in}
+use Rattle.labelling_laws.specs.Routes.{Origin, source_itself, by_arc}
+use Rattle.labelling_laws.proofs.Routes.{origin, block_route, route_step}
+use Rattle.labelling_laws.proofs.PieceBlocks.{setting, route, route_source}
 use Rattle.engine.specs.Labeller.ArcWords.{tail_of, ArcPlaces, lent_arc, HeldArc, ArcsHeld}
 
 -- the words of the arcs that the vertices of these pieces were settled by, from this source

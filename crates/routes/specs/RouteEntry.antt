@@ -20,8 +20,8 @@ use Rattle.definitions.specs.declared.LabelAnswer.{LabelAnswer}
 use Rattle.definitions.specs.declared.RouteAnswer.{RouteAnswer}
 use Rattle.logic.specs.Tests.{Equal, equal, differ, equality}
 use Rattle.basics.specs.Buffers.{buffers_are}
-use Rattle.labelling_laws.specs.LentNetworks.{lent_accepted, lent_route}
-use Rattle.labelling_laws.specs.PieceBlocks.{setting}
+use Rattle.labelling_laws.proofs.LentNetworks.{lent_accepted, lent_route}
+use Rattle.labelling_laws.proofs.PieceBlocks.{setting}
 use Rattle.engine.specs.Labeller.LabelEntry.{LabelArcsLeaves, labels_alone}
 use Rattle.routes.specs.Following.{Kept}
 use Rattle.routes.specs.Writing.{WriteRouteNeeds, WriteRouteLeaves}

@@ -16,9 +16,9 @@ use Rattle.definitions.specs.Network.{Piece, RouteArc}
 use Rattle.definitions.specs.Labelling.{label_of, held_label, labels}
 use Rattle.definitions.specs.Entries.{arc_numbers, arcs_of, route_answer}
 use Rattle.definitions.specs.declared.RouteAnswer.{RouteAnswer}
-use Rattle.labelling_laws.specs.LoopLaws.{labels_length, labels_read, read_settled, read_unsettled}
-use Rattle.labelling_laws.specs.Routes.{numbers_length}
-use Rattle.labelling_laws.specs.PieceBlocks.{labels_limited, route_unreached}
+use Rattle.labelling_laws.proofs.LoopLaws.{labels_length, labels_read, read_settled, read_unsettled}
+use Rattle.labelling_laws.proofs.Routes.{numbers_length}
+use Rattle.labelling_laws.proofs.PieceBlocks.{labels_limited, route_unreached}
 use Rattle.engine.specs.Labeller.ArcWords.{tail_of, ArcPlaces, lent_arc}
 use Rattle.routes.specs.Following.{Kept, last_state, route_in, HasLabel, vertex_in_lem, word_in, route_few, passed, none_left, CountArcsNeeds, CountArcsLeaves}
 

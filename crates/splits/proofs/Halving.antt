@@ -10,7 +10,7 @@ use Rattle.std.proofs.Math.ListN.{get_or-append, get_or-eq_default}
 use Rattle.definitions.specs.Limits.{max_size}
 use Rattle.definitions.specs.Lists.{all, every, up_from, within}
 use Rattle.definitions.specs.Blocks.{Split, splits, splits_of, splits_up_to, all_splits}
-use Rattle.definitions.specs.Laws.Members.{every_is, all_at}
+use Rattle.definitions.proofs.Laws.Members.{every_is, all_at}
 use Rattle.logic.specs.Tests.{and_left, and_right, Order, less, more, order}
 use Rattle.basics.specs.ListLaws.{every_at}
 use Rattle.splits.specs.Table.{flattened, places, no_split, three_at, split_in, first_split}

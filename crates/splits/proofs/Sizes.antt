@@ -7,7 +7,7 @@ use Rattle.std.proofs.Common.{ap, ◌∙◌, sub-one, arith, ltb-true, leb-true}
 use Rattle.definitions.specs.Limits.{max_size}
 use Rattle.definitions.specs.Lists.{all, every, within}
 use Rattle.definitions.specs.Blocks.{Split, splits, splits_of, splits_up_to, all_splits}
-use Rattle.definitions.specs.Laws.Members.{every_is, all_at}
+use Rattle.definitions.proofs.Laws.Members.{every_is, all_at}
 use Rattle.logic.specs.Tests.{and_left, and_right}
 use Rattle.basics.specs.ListLaws.{every_at}
 use Rattle.splits.specs.declared.Split as code

@@ -8,7 +8,7 @@ use Rattle.std.proofs.Common.{inl, inr, arith, ne_eqb, eqb-true, leb-true, ltb-t
 use Rattle.definitions.specs.Limits.{max_size}
 use Rattle.definitions.specs.Lists.{all, every, total, Every}
 use Rattle.definitions.specs.Blocks.{splits, splits_of, Window, windows, windows_of, logarithm_from, logarithm}
-use Rattle.definitions.specs.Laws.Members.{every_is, all_at}
+use Rattle.definitions.proofs.Laws.Members.{every_is, all_at}
 use Rattle.logic.specs.Tests.{and_left, and_right, Truth, holds, fails, truth}
 use Rattle.basics.specs.ListLaws.{Any}
 use Rattle.splits.specs.Windows.{spans, tally, pairs, few, Logarithm, Inside, Spans}

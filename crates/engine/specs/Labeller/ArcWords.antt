@@ -14,7 +14,7 @@ use Rattle.definitions.specs.Network.{RouteArc}
 use Rattle.definitions.specs.Blocks.{Block, no_block}
 use Rattle.definitions.specs.Labelling.{Settled, settled_at, label_of, arc_of, arc_at}
 use Rattle.logic.specs.Tests.{Truth, holds, fails, truth, Equal, equal, differ, equality}
-use Rattle.labelling_laws.specs.Labels.{arc_new, arc_other}
+use Rattle.labelling_laws.proofs.Labels.{arc_new, arc_other}
 use Rattle.preparation.specs.Prepared.{row_in, last_in}
 
 -- from the vertex at place x to the one at place y, both counted through all pieces

@@ -12,12 +12,13 @@ use Rattle.definitions.specs.Blocks.{Window, windows_of, block_of}
 use Rattle.definitions.specs.Labelling.{BlockState, activation, apply, place_of, activate_vertex, no_block_state}
 use Rattle.logic.specs.Tests.{split_at, Equal, equal, differ, equality}
 use Rattle.basics.specs.ListLaws.{Different, every_at}
-use Rattle.splits.specs.Windows.{Inside, windows_inside}
+use Rattle.splits.specs.Windows.{Inside}
+use Rattle.splits.proofs.Windows.{windows_inside}
 use Rattle.preparation.specs.Placements.{length_windows_of}
 use Rattle.preparation.specs.Numbering.{no_window}
 use Rattle.preparation.specs.Stretches.{Stretch, stretch_whole, stretch_fits}
 use Rattle.preparation.specs.BlockRows.{row_inside, row_outside}
-use Rattle.labelling_laws.specs.LoopLaws.{activated_none, activated_one_lem}
+use Rattle.labelling_laws.proofs.LoopLaws.{activated_none, activated_one_lem}
 use Rattle.engine.specs.declared.labelling.Half.{Half}
 use Rattle.engine.specs.Labeller.Insertions.{inserted_in, inserted_set}
 use Rattle.engine.specs.Labeller.Halves.{half_of, Halved, halved, Misses, Level, level}

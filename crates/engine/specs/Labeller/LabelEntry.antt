@@ -25,12 +25,13 @@ use Rattle.logic.specs.Tests.{split_at, Equal, equal, differ, equality}
 use Rattle.preparation.specs.BlockIndex.{no_index, filled_blocks}
 use Rattle.preparation.specs.Prepared.{matrix_of, filled_matrix, table_count, tables_of, filled_tables, max_words}
 use Rattle.preparation.specs.Numbering.{Fits}
-use Rattle.labelling_laws.specs.Acceptance.{Accepted, size_passes, suits}
-use Rattle.labelling_laws.specs.Arcs.{blocks_fit}
-use Rattle.labelling_laws.specs.PieceBlocks.{setting}
-use Rattle.labelling_laws.specs.LentNetworks.{lent_accepted}
+use Rattle.labelling_laws.specs.Acceptance.{Accepted}
+use Rattle.labelling_laws.proofs.Acceptance.{size_passes, suits}
+use Rattle.labelling_laws.proofs.Arcs.{blocks_fit}
+use Rattle.labelling_laws.proofs.PieceBlocks.{setting}
+use Rattle.labelling_laws.proofs.LentNetworks.{lent_accepted}
 use Rattle.labelling_laws.proofs.LabellingTheorems as theorems
-use Rattle.labelling_laws.specs.LabellingTheorems.{labels_are_distances, held_limited, reached_counts, few_extractions, few_insertions}
+use Rattle.labelling_laws.proofs.LabellingTheorems.{labels_are_distances, held_limited, reached_counts, few_extractions, few_insertions}
 use Rattle.engine.specs.Tree.TreeWords.{tree_words, idle}
 use Rattle.engine.specs.Labeller.Begins.{tables_for, prepared, fresh_arrays, begins}
 use Rattle.engine.specs.Labeller.Mapped.{traced, mapped}

@@ -31,9 +31,10 @@ use Rattle.preparation.specs.PlaceTable.{StandsAt, vertex_at}
 use Rattle.preparation.specs.Parts.{cols_is, last_is, row_at, placed, block_count, block_of_lem, cols_are, row_vertex_is, column_is, block_piece, block_places, block_length}
 use Rattle.preparation.specs.Tables.{NumbersSame, numbers_same, tables_count, first_in_lem, size_in_lem, vertex_in_lem}
 use Rattle.preparation.specs.PreparationTheorems.{the_count, the_window, first_place, next_place}
-use Rattle.labelling_laws.specs.Acceptance.{Accepted, Suits, suits}
+use Rattle.labelling_laws.specs.Acceptance.{Accepted, Suits}
+use Rattle.labelling_laws.proofs.Acceptance.{suits}
 use Rattle.labelling_laws.specs.OneBlock.{Fit}
-use Rattle.labelling_laws.specs.Arcs.{blocks_fit}
+use Rattle.labelling_laws.proofs.Arcs.{blocks_fit}
 use Rattle.engine.specs.Labeller.State.{Tables}
 use Rattle.engine.specs.Labeller.Begins.{tables_for}
 use Rattle.engine.specs.Labeller.ArcWords.{arc_word, lent_arc, Traced}

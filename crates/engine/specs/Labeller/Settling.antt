@@ -11,11 +11,12 @@ use Rattle.definitions.specs.Blocks.{windows_of, block_of}
 use Rattle.definitions.specs.Labelling.{BlockState, place_of, activate_vertex, no_block_state}
 use Rattle.logic.specs.Tests.{split_at}
 use Rattle.basics.specs.ListLaws.{every_at}
-use Rattle.splits.specs.Windows.{Inside, windows_inside}
+use Rattle.splits.specs.Windows.{Inside}
+use Rattle.splits.proofs.Windows.{windows_inside}
 use Rattle.preparation.specs.Placements.{length_windows_of}
 use Rattle.preparation.specs.Numbering.{no_window}
 use Rattle.preparation.specs.BlockRows.{row_absent}
-use Rattle.labelling_laws.specs.LoopLaws.{activated_at, activated_none}
+use Rattle.labelling_laws.proofs.LoopLaws.{activated_at, activated_none}
 use Rattle.engine.specs.Labeller.Insertions.{inserted_in}
 use Rattle.engine.specs.Labeller.Descent.{block_in, Descended, Stands, descent_done}
 

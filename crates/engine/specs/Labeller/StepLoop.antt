@@ -24,12 +24,12 @@ use Rattle.definitions.specs.Labelling.{BlockState, extraction, fresh_block, act
 use Rattle.definitions.specs.Entries.{label_answer}
 use Rattle.definitions.specs.declared.LabelAnswer.{LabelAnswer}
 use Rattle.basics.specs.ListLaws.{every_at, every_all}
-use Rattle.heap_laws.specs.Activate.{closed_few}
+use Rattle.heap_laws.proofs.Activate.{closed_few}
 use Rattle.labelling_laws.proofs.OneBlock as block
 use Rattle.labelling_laws.specs.OneBlock.{Fit, inserted_most}
 use Rattle.labelling_laws.specs.BlockSteps.{block_at, Setting}
-use Rattle.labelling_laws.specs.LoopLaws.{start_is, advance_old, advance_new, least_in_lem, labels_length, labels_none, labels_set, read_unsettled, read_settled}
-use Rattle.labelling_laws.specs.Ends.{start_extracts, step_extracts, goes, finished, reached_few, labels_short, extractions_bound, insertions_bound, welcome_start, welcome_step}
+use Rattle.labelling_laws.proofs.LoopLaws.{start_is, advance_old, advance_new, least_in_lem, labels_length, labels_none, labels_set, read_unsettled, read_settled}
+use Rattle.labelling_laws.proofs.Ends.{start_extracts, step_extracts, goes, finished, reached_few, labels_short, extractions_bound, insertions_bound, welcome_start, welcome_step}
 use Rattle.engine.specs.declared.labelling.Progress.{Progress}
 use Rattle.engine.specs.declared.labelling.Progress.TheVariants as progress
 use Rattle.engine.specs.declared.labelling.Step.TheVariants as step

@@ -20,12 +20,13 @@ use Rattle.definitions.specs.Model.{is_activated}
 use Rattle.definitions.specs.Labelling.{BlockState, place_of, activate_vertex, no_block_state}
 use Rattle.logic.specs.Tests.{split_at}
 use Rattle.basics.specs.ListLaws.{every_at}
-use Rattle.splits.specs.Windows.{Inside, windows_inside}
+use Rattle.splits.specs.Windows.{Inside}
+use Rattle.splits.proofs.Windows.{windows_inside}
 use Rattle.basics.specs.PiecePlaces.{block_rows}
 use Rattle.preparation.specs.Prepared.{row_in, row_count_in, table_count, start_in, next_in, first_in, size_in}
 use Rattle.preparation.specs.Placements.{length_windows_of}
 use Rattle.preparation.specs.Numbering.{no_window}
-use Rattle.labelling_laws.specs.VertexPlaces.{place_of_lem}
+use Rattle.labelling_laws.proofs.VertexPlaces.{place_of_lem}
 use Rattle.labelling_laws.specs.OneBlock.{Welcome}
 use Rattle.engine.specs.Labeller.State.{Tables, Arrays, changed, Running}
 use Rattle.engine.specs.Labeller.Counts.{place_inserts, vertex_inserts}

@@ -5,7 +5,8 @@ use borrow.Author.Rules.{rules}
 use Rattle.definitions.specs.Lists.{every}
 use Rattle.definitions.specs.Blocks.{windows, windows_of}
 use Rattle.splits.specs.Table.{split_of}
-use Rattle.splits.specs.Sizes.{Cut, first_small}
+use Rattle.splits.specs.Sizes.{Cut}
+use Rattle.splits.proofs.Sizes.{first_small}
 use Rattle.monge.proofs.SplitOrder.{in_order, stopped, went, ended}
 use Rattle.monge.proofs.blocks_pass.Goals.{else-not-quick_split-via-then-not-quick_split+else-not-split_passes, else-not-quick_split-via-else-not-quick_split}
 use Rattle.monge.proofs.blocks_pass.Goals as goal

@@ -11,7 +11,8 @@ use Rattle.definitions.specs.Limits.{max_size}
 use Rattle.definitions.specs.Blocks.{splits_of, all_splits, windows}
 use Rattle.splits.specs.declared.Split as code
 use Rattle.splits.specs.Table.{flattened, no_split, split_of, split_in, first_split}
-use Rattle.splits.specs.Sizes.{first_small, Cut, cut_at, split_is}
+use Rattle.splits.proofs.Sizes.{first_small, cut_at, split_is}
+use Rattle.splits.specs.Sizes.{Cut}
 use Rattle.preparation.specs.Prepared.{place, split_placements, split_words, Stored}
 use Rattle.preparation.specs.Numbers.{stored_none, stored_more, split_words_lem, placements_next, placements_all, length_placements}
 use Rattle.preparation.proofs.store_piece.Statement.{statement}
