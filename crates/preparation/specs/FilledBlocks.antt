@@ -24,7 +24,7 @@ use Rattle.preparation.specs.Prepared.{matrix_of, row_in, col_in, cols_in, row_c
 use Rattle.preparation.specs.BlockIndex.{no_index, window_rows, replaced_rows, filled_block, filled_up_to, filled_blocks}
 use Rattle.preparation.specs.BlocksApart.{Apart, columns_apart, no_block}
 use Rattle.preparation.specs.Numbering.{Fits}
-use Rattle.preparation.specs.Parts.{matrix_long, rows_in, rows_are, cols_in_lem, sides_in}
+use Rattle.preparation.specs.Parts.{matrix_long, rows_in_lem, rows_are, cols_in_lem, sides_in}
 use Rattle.preparation.specs.Tables.{tables_count, NumbersSame, numbers_same}
 
 -- ---- rows that are replaced
@@ -222,7 +222,7 @@ module _ (p : ℕ) (sizes vertices lengths : List ℕ) (fits : Fits p sizes vert
   rows_inside : (b : ℕ) → b < length (placements_of p sizes) → b < max_blocks → row_in tables b + row_count_in tables b ≤ vertex_places
   rows_inside b l few =
       let s = numbers_same p sizes vertices b few in
-      rw (s.row, s.row_count, rows_are p sizes vertices lengths fits b l) (rows_in p sizes vertices lengths fits b l)
+      rw (s.row, s.row_count, rows_are p sizes vertices lengths fits b l) (rows_in_lem p sizes vertices lengths fits b l)
 
   -- the index of one block does not have the places of another's
   apart_from : (b c : ℕ) → b < length (placements_of p sizes) → b < max_blocks → c < max_blocks → b ≢ c

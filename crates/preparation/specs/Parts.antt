@@ -4,7 +4,7 @@
 --   parts_long matrix_long                              how long the arrays are
 --   block_count block_at_lem block_of_lem placed                the blocks of the network, by their numbers
 --   slots_rise slots_apart slots_end                    the words of different heaps do not meet, and end within all words
---   entry_is rows_in cols_in_lem cols_are rows_are sides_in a block is a window of the matrix
+--   entry_is rows_in_lem cols_in_lem cols_are rows_are sides_in a block is a window of the matrix
 --   row_vertex_is column_is                             where the vertices of its rows and of its columns stand
 --   block_piece block_places block_length               its piece, and where its entries stand
 use Rattle.std.specs.Prelude.{◌≡◌, refl, true, ◌⊎◌, ◌≢◌, List, [], ◌∷◌, map, ℕ, zero, suc, pred, ◌+◌, ◌-◌, ◌*◌, ◌/◌, ◌≤◌, ◌<◌, leb, length, take, drop}
@@ -244,8 +244,8 @@ module _ (p : ℕ) (sizes vertices lengths : List ℕ) (fits : Fits p sizes vert
   -- ---- by the block's number
 
   module _ (b : ℕ) (l : b < length (placements_of p sizes)) where
-    pub rows_in : row_in (parts_of p sizes) b + length (get_or (blocks (pieces_of p sizes vertices lengths)) b no_block).rows ≤ vertex_places
-    rows_in =
+    pub rows_in_lem : row_in (parts_of p sizes) b + length (get_or (blocks (pieces_of p sizes vertices lengths)) b no_block).rows ≤ vertex_places
+    rows_in_lem =
         let x = get_or (placements_of p sizes) b no_placement in
         let h = placed p sizes fits.pieces_in b l in
         rw (row_is p sizes b l, block_at_lem b l, block_rows (suc x.piece) (piece_at sizes vertices lengths x.piece) x.window)

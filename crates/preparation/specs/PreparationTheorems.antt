@@ -25,7 +25,7 @@ use Rattle.preparation.specs.Prepared.{size_at, matrix_of, parts_of, slot_in, ro
 use Rattle.preparation.specs.Placements.{length_up_to, blocks_few}
 use Rattle.preparation.specs.Numbering.{Fits, no_window, first_is, firsts_are, Numbered, numbered}
 use Rattle.preparation.specs.PlaceTable.{StandsAt, Next, all_linked}
-use Rattle.preparation.specs.Parts.{block_count, block_of_lem, row_at, slots_apart, slots_end, rows_in, cols_in_lem, cols_are, rows_are, sides_in, entry_is, row_vertex_is, column_is}
+use Rattle.preparation.specs.Parts.{block_count, block_of_lem, row_at, slots_apart, slots_end, rows_in_lem, cols_in_lem, cols_are, rows_are, sides_in, entry_is, row_vertex_is, column_is}
 use Rattle.preparation.specs.Tables.{NumbersSame, numbers_same, start_in_lem, next_in_lem, first_in_lem, size_in_lem, vertex_in_lem}
 use Rattle.preparation.specs.Stretches.{forth, back, Stretch, stretch_whole, stretch_first, stretch_second, stretch_left, stretch_right}
 use Rattle.index.specs.HeldRows.{Indexed}
@@ -85,7 +85,7 @@ module _ (p : ℕ) (sizes vertices lengths : List ℕ) (fits : Fits p sizes vert
         × (cols_in (parts_of p sizes) b ≡ length (block_no p sizes vertices lengths b).cols)
         × (row_count_in (parts_of p sizes) b ≡ length (block_no p sizes vertices lengths b).rows)
     the_window = (
-      rows_in p sizes vertices lengths fits b number,
+      rows_in_lem p sizes vertices lengths fits b number,
       cols_in_lem p sizes vertices lengths fits b number,
       cols_are p sizes vertices lengths fits b number,
       rows_are p sizes vertices lengths fits b number,

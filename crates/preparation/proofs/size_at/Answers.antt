@@ -9,8 +9,7 @@ use lib.Dec.{leb, ltb}
 use lib.ListN.{length, get_or-eq_default}
 use Rattle.definitions.specs.Limits.{max_size}
 use Rattle.preparation.specs.Prepared.{size_at}
-use Rattle.preparation.proofs.size_at.Statement.{statement}
-use Rattle.preparation.proofs.size_at.Tie as tie
+use Rattle.preparation.proofs.size_at.Goals as goal
 
 absent : (p : ℕ) (sizes : List ℕ) (d : ℕ) → length sizes ≤ d → 0 ≡ size_at p sizes d
 unfolding size_at
@@ -20,22 +19,17 @@ absent p sizes d h = rw (get_or-eq_default sizes 0 h) (go (ltb d p && leb 0 max_
     go true = refl
     go false = refl
 
-returns : tie.Need-returns
+pub returns-then-d-p : goal.returns-then-d-p
 unfolding size_at
-returns c = (simp (le-ltb _ _ c.if1.true), search rules)
+returns-then-d-p c = (simp (le-ltb _ _ c.if-d-p.true), search rules)
 
-returns-2 : tie.Need-returns-2
-returns-2 c = (absent _ _ _ c.if2.true, search rules)
+pub returns-then-d-sizes : goal.returns-then-d-sizes
+returns-then-d-sizes c = (absent _ _ _ c.if-d-sizes.true, search rules)
 
-returns-3 : tie.Need-returns-3
+pub returns-then-sizes-d-gt-MAX_SIZE : goal.returns-then-sizes-d-gt-MAX_SIZE
 unfolding size_at
-returns-3 c = (simp (lt-leb _ _ c.if3.true, and-false), search rules)
+returns-then-sizes-d-gt-MAX_SIZE c = (simp (lt-leb _ _ c.if-sizes-d-gt-MAX_SIZE.true, and-false), search rules)
 
-returns-4 : tie.Need-returns-4
+pub returns : goal.returns
 unfolding size_at
-returns-4 c = (simp (lt-ltb _ _ c.before.before.before.before.if1.false, le-leb _ _ c.before.if3.false), search rules)
-
-pub size_at_spec : {M : Type 1} → statement M
-size_at_spec =
-    tie.close (tie.spec returns returns-2 (λ c. search rules) (λ c. search rules) returns-3 (λ c. search rules) (λ c. search rules)
-    returns-4)
+returns c = (simp (lt-ltb _ _ c.if-d-p.false, le-leb _ _ c.if-sizes-d-gt-MAX_SIZE.false), search rules)

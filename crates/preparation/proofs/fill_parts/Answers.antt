@@ -1,27 +1,17 @@
 -- `fill_parts`: after d turns the blocks of the first d pieces are stored. The blocks and words that a piece has at most keep the numbers small.
 use mathlib.Core.Path.{◌≡◌, refl, sym, ap, ◌∙◌}
 use mathlib.Core.List.{List}
-use Prim.Native.Nat.{ℕ, ◌+◌, ◌*◌, ◌≤◌, ◌-◌}
+use Prim.Native.Nat.{ℕ, ◌+◌, ◌≤◌}
 use native.Mathlib.Numerals.{add-one}
 use native.Mathlib.Omega.{arith}
 use borrow.Author.Rules.{rules}
 use lib.ListN.{length, replicate, length-replicate}
 use Rattle.definitions.specs.Limits.{max_pieces}
-use Rattle.definitions.specs.Blocks.{all_splits}
-use Rattle.splits.specs.Table.{flattened}
-use Rattle.preparation.specs.Prepared.{size_at, piece_placements, placements_up_to, placements_of, blocks_up_to, numbers_from, part_places, piece_blocks, piece_words, Stored, parts_of}
+use Rattle.preparation.specs.Prepared.{size_at, piece_placements, placements_up_to, placements_of, blocks_up_to, numbers_from, part_places, Stored, parts_of}
 use Rattle.preparation.specs.Numbers.{stored_none, stored_more, length_numbers}
 use Rattle.preparation.specs.Placements.{length_up_to, blocks_next, blocks_few, piece_words_lem}
 use Rattle.preparation.proofs.TableLaws.{sets_fresh}
-use Rattle.preparation.proofs.fill_parts.Statement.{statement}
-use Rattle.preparation.proofs.fill_parts.Tie as tie
-
-abbrev invariant-loop : tie.invariant-loop
-invariant-loop parts₀ p sizes splits slot₀ b₀ d₀ parts slot b d =
-    (d ≤ max_pieces) × (length parts ≡ part_places) × (splits ≡ flattened all_splits) × (b ≡ blocks_up_to p sizes d) × (b ≤ piece_blocks * d) × (slot ≤ piece_words * d) × Stored parts₀ parts 0 0 slot (placements_up_to p sizes d)
-
-abbrev decreases-loop : tie.decreases-loop
-decreases-loop parts₀ p sizes splits slot₀ b₀ d₀ parts slot b d = max_pieces - d
+use Rattle.preparation.proofs.fill_parts.Goals as goal
 
 module _ (p : ℕ) (sizes : List ℕ) where
   piece_more : (before mid out : List ℕ) (d b m slot next : ℕ) → m ≡ size_at p sizes d → b ≡ blocks_up_to p sizes d
@@ -38,18 +28,18 @@ module _ (p : ℕ) (sizes : List ℕ) where
       omega (arith, length_numbers 0 (placements_up_to p sizes d), length_up_to p sizes d, blocks_few p sizes d) in
       h.stored ∙ sets_fresh part_places (numbers_from 0 (placements_up_to p sizes d)) n ∙ rw e
 
-loop-holds : tie.Need-loop-init invariant-loop decreases-loop
+pub loop-d-init : goal.loop-d-init
 unfolding blocks_up_to placements_up_to
-loop-holds c =
-    let fresh = c.before.before.before.requires in
+loop-d-init c =
+    let fresh = c.requires in
     (search rules, ap length fresh ∙ length-replicate {A = ℕ} part_places 0, search rules, refl, search rules, search rules, stored_none _ _ _)
 
-loop-again : tie.Need-loop-preserved invariant-loop decreases-loop
-loop-again c =
-    let l = c.before.before.before.before.before.before.before.before.loop in
-    let a = c.before.before.before.before.before.before.before.before.before.before.before.before.args in
-    let size = c.before.before.before.before.before.before.size-at.ensures in
-    let stored = c.before.before.before.store-piece.ensures in (
+pub loop-d-preserved : goal.loop-d-preserved
+loop-d-preserved c =
+    let l = c.loop-d in
+    let a = c.args in
+    let size = c.size_at-m.ensures in
+    let stored = c.store_piece-slot.ensures in (
       search rules,
       search rules,
       search rules,
@@ -59,17 +49,10 @@ loop-again c =
       piece_more a.p a.sizes.now _ _ _ _ _ _ _ _ size.0 l.invariant.3 l.invariant.6 stored,
     )
 
-same_length : tie.Need-same-length invariant-loop decreases-loop
-same_length c = c.before.loop.invariant.1 ∙ sym (ap length c.before.before.before.before.before.requires ∙ length-replicate {A = ℕ} part_places 0)
+pub shape_of-parts : goal.shape_of-parts
+shape_of-parts c = c.loop-d.invariant.1 ∙ sym (ap length c.requires ∙ length-replicate {A = ℕ} part_places 0)
 
-returns : tie.Need-returns invariant-loop decreases-loop
+pub returns : goal.returns
 returns c =
-    let start = c.before.before.before.before.before in
-    let e : c.before.loop.d ≡ max_pieces = omega arith in
-    whole start.args.p start.args.sizes.now _ _ c.before.loop.d e (rw start.requires at c.before.loop.invariant.6)
-
-pub fill_parts_spec : {M : Type 1} → statement M
-fill_parts_spec =
-    tie.close (tie.spec invariant-loop decreases-loop (λ c κs. search rules) loop-holds (λ c κs. search rules) (λ c. search rules) (λ c. search rules)
-    (λ c κs. search rules) (λ c κs. search rules) (λ c. search rules) (λ c. search rules) (λ c. search rules) (λ c. search rules) loop-again
-    same_length returns)
+    let e : c.loop-d.d ≡ max_pieces = omega arith in
+    whole c.args.p c.args.sizes.now _ _ c.loop-d.d e (rw c.requires at c.loop-d.invariant.6)

@@ -1,9 +1,8 @@
 -- `store_tables`: each table is stored behind those before it.
 use mathlib.Core.Path.{◌≡◌, sym, ap, ◌∙◌}
 use mathlib.Core.List.{List, [], ◌++◌, append_assoc, append-nil}
-use Prim.Native.Nat.{ℕ, ◌+◌, ◌-◌, ◌≤◌}
+use Prim.Native.Nat.{ℕ, ◌-◌, ◌≤◌}
 use native.Mathlib.Omega.{arith}
-use borrow.Author.Rules.{rules}
 use lib.ListN.{length, take, drop, replicate, length-append}
 use Rattle.definitions.specs.Lists.{padded}
 use Rattle.basics.specs.ListLaws.{length_padded}
@@ -12,8 +11,7 @@ use Rattle.preparation.specs.Parts.{parts_long}
 use Rattle.preparation.specs.PlaceTable.{places_long}
 use Rattle.preparation.specs.Tables.{firsts_count, sizes_count, vertices_count}
 use Rattle.preparation.proofs.TableLaws.{fresh_part, part_padded}
-use Rattle.preparation.proofs.store_tables.Statement.{statement}
-use Rattle.preparation.proofs.store_tables.Tie as tie
+use Rattle.preparation.proofs.store_tables.Goals as goal
 
 -- the tables ys stand at the front, up to place a
 record Front (l ys : List ℕ) (a : ℕ) : Type 0 where
@@ -84,95 +82,40 @@ module _ (p : ℕ) (sizes vertices l : List ℕ) (fresh : l ≡ replicate table_
               let e : table_count - length ys ≡ 0 = omega (arith, front₅.count) in
               front₅.is ∙ ap (λ (k : ℕ). ys ++ replicate k 0) e ∙ append-nil ys ∙ simp append_assoc
 
--- ---- places
-
-abbrev start : tie.After-fill-parts → tie.Start
-start c = c.before.before.before.before.before
-
-abbrev one : tie.After-fill-places → tie.After-fill-parts
-one c = c.before.before.before.before
-
-abbrev two : tie.After-fill-firsts → tie.After-fill-places
-two c = c.before.before.before.before
-
-abbrev three : tie.After-fill-sizes → tie.After-fill-firsts
-three c = c.before.before.before.before
-
-abbrev four : tie.After-fill-vertices → tie.After-fill-sizes
-four c = c.before.before.before.before
-
 -- ---- needs
+pub slice_bounds-fill_parts-end : goal.slice_bounds-fill_parts-end
+slice_bounds-fill_parts-end c = omega (arith, long _ _ 0 (begun _ c.requires) (omega arith))
 
-part-fill-parts-end : tie.Need-slice-bounds-fill-parts-end
-part-fill-parts-end c = omega (arith, long _ _ 0 (begun _ c.before.before.before.requires) (omega arith))
+pub fill_parts-requires : goal.fill_parts-requires
+fill_parts-requires c = zeros _ _ 0 (begun _ c.requires) places_at (omega arith) (omega arith)
 
-fill-parts-requires : tie.Need-fill-parts-requires
-fill-parts-requires c κs = zeros _ _ 0 (begun _ c.before.before.before.before.requires) places_at (omega arith) (omega arith)
-
-part-fill-places-end : tie.Need-slice-bounds-fill-places-end
-part-fill-places-end c =
-    let c₁ = c.before.before in
-    let a = start c₁ in
-    let long = long _ _ _ (front₁ a.args.p a.args.sizes.now a.args.vertices.now _ a.pre _ c₁.fill-parts.ensures) (omega arith) in
+pub slice_bounds-fill_places-end : goal.slice_bounds-fill_places-end
+slice_bounds-fill_places-end c =
+    let long = long _ _ _ (front₁ c.args.p c.args.sizes.now c.args.vertices.now _ c.requires _ c.fill_parts.ensures) (omega arith) in
     omega arith
 
-fill-places-requires : tie.Need-fill-places-requires
-fill-places-requires c κs =
-    let c₁ = c.before.before.before in
-    let a = start c₁ in
-    zeros _ _ _ (front₁ a.args.p a.args.sizes.now a.args.vertices.now _ a.pre _ c₁.fill-parts.ensures) firsts_at (omega arith) (omega arith)
+pub fill_places-requires : goal.fill_places-requires
+fill_places-requires c = zeros _ _ _ (front₁ c.args.p c.args.sizes.now c.args.vertices.now _ c.requires _ c.fill_parts.ensures) firsts_at (omega arith) (omega arith)
 
-part-fill-firsts-end : tie.Need-slice-bounds-fill-firsts-end
-part-fill-firsts-end c =
-    let c₂ = c.before.before in
-    let c₁ = one c₂ in
-    let a = start c₁ in
-    let long = long _ _ _ (front₂ a.args.p a.args.sizes.now a.args.vertices.now _ a.pre _ c₁.fill-parts.ensures _ c₂.fill-places.ensures) (omega arith) in
+pub slice_bounds-fill_firsts-end : goal.slice_bounds-fill_firsts-end
+slice_bounds-fill_firsts-end c =
+    let long = long _ _ _ (front₂ c.args.p c.args.sizes.now c.args.vertices.now _ c.requires _ c.fill_parts.ensures _ c.fill_places.ensures) (omega arith) in
     omega arith
 
-part-fill-sizes-end : tie.Need-slice-bounds-fill-sizes-end
-part-fill-sizes-end c =
-    let c₃ = c.before.before in
-    let c₂ = two c₃ in
-    let c₁ = one c₂ in
-    let a = start c₁ in
-    let long = long _ _ _ (front₃ a.args.p a.args.sizes.now a.args.vertices.now _ a.pre _ c₁.fill-parts.ensures _ c₂.fill-places.ensures _ c₃.fill-firsts.ensures) (omega arith) in
+pub slice_bounds-fill_sizes-end : goal.slice_bounds-fill_sizes-end
+slice_bounds-fill_sizes-end c =
+    let long = long _ _ _ (front₃ c.args.p c.args.sizes.now c.args.vertices.now _ c.requires _ c.fill_parts.ensures _ c.fill_places.ensures _ c.fill_firsts.ensures) (omega arith) in
     omega arith
 
-part-fill-vertices-end : tie.Need-slice-bounds-fill-vertices-end
-part-fill-vertices-end c =
-    let c₄ = c.before.before in
-    let c₃ = three c₄ in
-    let c₂ = two c₃ in
-    let c₁ = one c₂ in
-    let a = start c₁ in
-    let long = long _ _ _ (front₄ a.args.p a.args.sizes.now a.args.vertices.now _ a.pre _ c₁.fill-parts.ensures _ c₂.fill-places.ensures _ c₃.fill-firsts.ensures _ c₄.fill-sizes.ensures) (omega arith) in
+pub slice_bounds-fill_vertices-end : goal.slice_bounds-fill_vertices-end
+slice_bounds-fill_vertices-end c =
+    let long = long _ _ _ (front₄ c.args.p c.args.sizes.now c.args.vertices.now _ c.requires _ c.fill_parts.ensures _ c.fill_places.ensures _ c.fill_firsts.ensures _ c.fill_sizes.ensures) (omega arith) in
     omega arith
 
-same_length : tie.Need-same-length
-same_length c =
-    let c₅ = c.before.before in
-    let c₄ = four c₅ in
-    let c₃ = three c₄ in
-    let c₂ = two c₃ in
-    let c₁ = one c₂ in
-    let a = start c₁ in
-    long _ _ _ (front₅ a.args.p a.args.sizes.now a.args.vertices.now _ a.pre _ c₁.fill-parts.ensures _ c₂.fill-places.ensures _ c₃.fill-firsts.ensures _ c₄.fill-sizes.ensures _ c₅.fill-vertices.ensures) (omega arith)
-    ∙ sym (long _ _ 0 (begun _ a.pre) (omega arith))
+pub shape_of-tables : goal.shape_of-tables
+shape_of-tables c =
+    long _ _ _ (front₅ c.args.p c.args.sizes.now c.args.vertices.now _ c.requires _ c.fill_parts.ensures _ c.fill_places.ensures _ c.fill_firsts.ensures _ c.fill_sizes.ensures _ c.fill_vertices.ensures) (omega arith)
+    ∙ sym (long _ _ 0 (begun _ c.requires) (omega arith))
 
-returns : tie.Need-returns
-returns c =
-    let c₅ = c.before.before in
-    let c₄ = four c₅ in
-    let c₃ = three c₄ in
-    let c₂ = two c₃ in
-    let c₁ = one c₂ in
-    let a = start c₁ in
-    all a.args.p a.args.sizes.now a.args.vertices.now _ a.pre _ c₁.fill-parts.ensures _ c₂.fill-places.ensures _ c₃.fill-firsts.ensures _ c₄.fill-sizes.ensures _ c₅.fill-vertices.ensures
-
-pub store_tables_spec : {M : Type 1} → statement M
-store_tables_spec =
-    tie.close (tie.spec (λ c. search rules) (λ c. search rules) part-fill-parts-end fill-parts-requires (λ c. search rules)
-    (λ c. search rules) part-fill-places-end fill-places-requires (λ c. search rules) (λ c. search rules) part-fill-firsts-end
-    (λ c κs. search rules) (λ c. search rules) (λ c. search rules) part-fill-sizes-end (λ c κs. search rules) (λ c. search rules)
-    (λ c. search rules) part-fill-vertices-end (λ c κs. search rules) same_length returns)
+pub returns : goal.returns
+returns c = all c.args.p c.args.sizes.now c.args.vertices.now _ c.requires _ c.fill_parts.ensures _ c.fill_places.ensures _ c.fill_firsts.ensures _ c.fill_sizes.ensures _ c.fill_vertices.ensures
