@@ -1,6 +1,6 @@
 -- The pieces read back from the buffers that hold them: what the labelling is lent is what the text says.
 use Rattle.std.specs.Prelude.{◌≡◌, refl, ℕ, suc, ◌+◌, ◌-◌, ◌*◌, get_or, take, drop}
-use Rattle.std.proofs.Common.{sym, ◌∙◌, arith, length-append, take_at, drop_at, drop-drop}
+use Rattle.std.proofs.Common.{sym, subst, ◌∙◌, arith, length-append, take_at, drop_at, drop-drop}
 use Rattle.std.proofs.Math.Path.{ap}
 use mathlib.Core.List.{List, [], ◌∷◌, ◌++◌, map, map-append, map_congr_left, flat_map, append_assoc}
 use Rattle.std.proofs.Math.ListN.{length, replicate}
@@ -60,7 +60,7 @@ pieces_from done (q ∷ rest) before shapes =
     let shift : done ++ q ∷ rest ≡ (done ++ q ∷ []) ++ rest = sym (append_assoc done (q ∷ []) rest) in
     let count : suc (length done) ≡ length (done ++ q ∷ []) = omega (arith, length-append done (q ∷ [])) in
     let next = pieces_from (done ++ q ∷ []) rest (every_append Shaped done (q ∷ []) before (shapes.0, tt)) shapes.1 in
-    rw (piece_back done rest q before shapes.0) (ap (λ (l : List Piece). q ∷ l) (rw (shift, count) next))
+    rw (piece_back done rest q before shapes.0) (ap (λ (l : List Piece). q ∷ l) (subst (λ (l : List Piece). map (piece_at (sizes_of l) (vertices_of l) (lengths_of l)) (up_from (suc (length done)) (length rest)) ≡ rest) (sym shift) (subst (λ (k : ℕ). map (piece_at (sizes_of ((done ++ q ∷ []) ++ rest)) (vertices_of ((done ++ q ∷ []) ++ rest)) (lengths_of ((done ++ q ∷ []) ++ rest))) (up_from k (length rest)) ≡ rest) (sym count) next)))
 
 -- what the labelling reads from the reader's buffers is what the reader read
 pub pieces_back : (qs : List Piece) → Every Shaped qs → pieces_of (length qs) (sizes_of qs) (vertices_of qs) (lengths_of qs) ≡ qs

@@ -1,9 +1,9 @@
 -- The rows of a table, read one after the other into 24 rows of 24 places.
 --   RowsGoing rows_begun rows_turn rows_broken rows_ended   the loop over the rows
---   line_ends line_end_in                                             a line lies in the text
---   rows_from_lem rows_back                                               the rows of a table, read back from its places
+--   line_ends line_end_in                               a line lies in the text
+--   rows_from_lem rows_back                             the rows of a table, read back from its places
 use Rattle.std.specs.Prelude.{◌≡◌, refl, ◌≢◌, eqb, get_or, length, take, drop, replicate}
-use Rattle.std.proofs.Common.{sym, ap, ◌∙◌, add-one, arith, eqb-true, length-append, take_at, drop_at}
+use Rattle.std.proofs.Common.{sym, ap, ◌∙◌, subst, add-one, arith, eqb-true, length-append, take_at, drop_at}
 use mathlib.Core.List.{List, [], ◌∷◌, ◌++◌, map, flat_map, append_assoc, append-nil}
 use Prim.Native.Nat.{ℕ, suc, ◌+◌, ◌-◌, ◌*◌, ◌≤◌, ◌<◌}
 use Rattle.std.proofs.Math.ListN.{get_or-eq_default}
@@ -135,7 +135,7 @@ rows_from_lem m s before rest (row ∷ rows) small wide e =
     let shift : before ++ ((x ++ flat_map (padded row_places 0) rows) ++ rest) ≡ (before ++ x) ++ (flat_map (padded row_places 0) rows ++ rest) = simp append_assoc in
     let next : length (before ++ x) ≡ row_places * suc s = omega (arith, length-append before x, long, e) in
     rw (drop_at before ((x ++ flat_map (padded row_places 0) rows) ++ rest) (row_places * s) e, first_row)
-    (ap (λ (l : List (List ℕ)). row ∷ l) (rw shift (rows_from_lem m (suc s) (before ++ x) rest rows small wide.1 next)))
+    (ap (λ (l : List (List ℕ)). row ∷ l) (subst (λ (t : List ℕ). map (λ i. take m (drop (row_places * i) t)) (up_from (suc s) (length rows)) ≡ rows) (sym shift) (rows_from_lem m (suc s) (before ++ x) rest rows small wide.1 next)))
   where
     first_row : take m ((padded row_places 0 row ++ flat_map (padded row_places 0) rows) ++ rest) ≡ row
     first_row = simp append_assoc (take_at row _ m wide.0)

@@ -1,7 +1,7 @@
 // The text reader's struct: a text and a place in it.
 //
-// The borrow checker covers no function over such a struct, so each is proved by a walk by hand. They are few and only make the struct or take
-// it apart; every branch and loop is in the field reader. `field_at` and `length_at` have plain parameters and serve every caller without a walk.
+// The functions over it are few and only make it or take it apart; every branch and loop is in the field reader. `field_at` and `length_at`
+// have plain parameters and serve every caller.
 ghost use Rattle.std.specs.Prelude.{◌≡◌};
 ghost use Rattle.definitions.specs.Fields.{field_at, length_at, field_answer, length_answer};
 
