@@ -7,7 +7,7 @@
 --   activated_none activated_some    nothing is won; columns are won
 --   PutAllLeaves activated_all       all columns are won at once
 --   removed_by ParentIs MinExtracted ExtractMinLeaves extracted-..    an extraction, from a given model; from any
-use Rattle.std.specs.Prelude.{◌≡◌, Bool, ◌||◌, List, [], ◌∷◌, ◌++◌, map, ◌⊎◌, ◌≢◌, eqb}
+use Rattle.std.specs.Prelude.{◌≡◌, Bool, ◌||◌, List, ◌++◌, ◌⊎◌, ◌≢◌, eqb}
 use Rattle.std.proofs.Math.Path.{refl, sym, ap}
 use Rattle.std.proofs.Common.{◌∙◌, inl, inr, ⊎_elim, le_refl}
 use Rattle.std.proofs.Math.Bool.{true, false, cond, or-true, or-false}

@@ -2,9 +2,9 @@
 --   Counted                            marks are 0 or 1, and the word of the head counts them
 --   Reaches ReachLeaves reach-..       the marks that are set, column by column
 --   WinsAll MarkKeeps MarkAllLeaves mark-..    all marks at once
-use Rattle.std.specs.Prelude.{◌≡◌, refl, Bool, false, ◌||◌, List, ◌⊎◌, ◌≢◌, ℕ, ◌+◌, ◌≤◌, ◌<◌, eqb, length, get_or, set}
+use Rattle.std.specs.Prelude.{◌≡◌, refl, false, ◌||◌, List, ◌⊎◌, ◌≢◌, ℕ, ◌+◌, ◌≤◌, ◌<◌, eqb, length, set}
 use Rattle.std.proofs.Math.Path.{sym}
-use Rattle.std.proofs.Common.{ap, ◌∙◌, le_refl, eq-eqb, ne_eqb, eqb-true}
+use Rattle.std.proofs.Common.{ap, ◌∙◌, eqb-true}
 use Rattle.std.proofs.Math.Bool.{true}
 use Rattle.std.proofs.Math.Logic.{inl, inr, ⊎_elim}
 use native.Mathlib.Omega.{arith}
@@ -13,7 +13,7 @@ use Rattle.std.proofs.Math.Seq.{get_or-set_same, get_or-set_other}
 use Rattle.definitions.specs.Limits.{row_places}
 use Rattle.definitions.specs.Lists.{count}
 use Rattle.definitions.specs.HeapWords.{count_word, reached_word, mark_word, head_words, place_words, interval_words, interval_start, heap_words, count_of, reached_of, mark_at, listed_at}
-use Rattle.logic.specs.Tests.{clash, split_at, Truth, holds, fails, truth, Equal, equal, differ, equality}
+use Rattle.logic.specs.Tests.{clash, split_at, Equal, equal, differ, equality}
 use Rattle.basics.specs.ListLaws.{count_le, count_in, count_full, count_all, count_same}
 use Rattle.engine.specs.Heap.Strides.{group_ends}
 use Rattle.engine.specs.Heap.WordLaws.{word_end, interval_same, head_set, head_mark}

@@ -4,7 +4,7 @@
 --   next_run one_run                        the first run of a stretch; a stretch that is one run
 --   CountKeeps count-..                     how many runs there are, one after the other
 --   RowReads PutRunLeaves PutRunsNeeds PutRunsLeaves runs-..    they are written, each with its best; the least of these sums
-use Rattle.std.specs.Prelude.{◌≡◌, Bool, false, cond, not, ◌&&◌, ◌⊎◌, eqb, get_or}
+use Rattle.std.specs.Prelude.{◌≡◌, Bool, false, cond, not, ◌&&◌, eqb, get_or}
 use Rattle.std.proofs.Math.Path.{refl, sym, ap}
 use Rattle.std.proofs.Common.{◌∙◌, inl, inr, length-append}
 use Rattle.std.proofs.Math.Bool.{true}
@@ -14,7 +14,7 @@ use Rattle.std.proofs.Math.Logic.{⊎_elim}
 use Prim.Native.Nat.{ℕ, suc, pred, ◌+◌, ◌-◌, ◌≤◌, ◌<◌}
 use Rattle.std.proofs.Math.Nat.{le_refl}
 use native.Mathlib.Omega.{arith}
-use borrow.Author.Tests.{eq-eqb, ne_eqb, leb-true, lt-ltb, le-ltb}
+use borrow.Author.Tests.{ne_eqb, leb-true}
 use Rattle.std.proofs.Math.Dec.{leb}
 use Rattle.std.proofs.Math.ListN.{length}
 use Rattle.definitions.specs.Limits.{row_places, no_path, below, unreached}
@@ -26,7 +26,7 @@ use Rattle.definitions.specs.Model.{Listed, through}
 use Rattle.definitions.specs.HeapWords.{heap_words, best_column_at, best_sum_at, interval_at, span, listed_at}
 use Rattle.definitions.specs.HeldModel.{lent_entry}
 use Rattle.definitions.proofs.Laws.LeastLaws.{Found, found_is, least_from_same}
-use Rattle.definitions.proofs.Laws.RunProofs.{runs_none, tag, lookup, lookup_runs, runs_rising, IsRun, Longest, runs_longest}
+use Rattle.definitions.proofs.Laws.RunProofs.{runs_none, tag, lookup, lookup_runs, Longest, runs_longest}
 use Rattle.logic.specs.Tests.{clash, and_left, and_right, split_at, Truth, holds, fails, truth, Equal, equal, differ, equality, Order, less, more, order}
 use Rattle.heap_laws.proofs.Lesser.{lesser_nobody}
 use Rattle.heap_laws.proofs.Parents.{through_some, through_none}

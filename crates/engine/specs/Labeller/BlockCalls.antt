@@ -36,7 +36,7 @@ use Rattle.engine.specs.Heap.LeastColumn.{LeastLeaves, best_of, least_is_left}
 use Rattle.engine.specs.Heap.HeapCalls.{Becomes, ActivateGiven, Falls, RowActivated, removed_by, ParentIs, MinExtracted}
 use Rattle.engine.specs.Tree.TreeWords.{leaves, Key, key_at, IsTournament, KeyChanged}
 use Rattle.engine.specs.Labeller.State.{Heaps, with_words, heap_in, window_in, labels_in, label_at, numbers_in, BlockLies, HoldsBlock, HoldsBlocks, bests, call_at, CallDone, ExtractionDone, HeapActivated}
-use Rattle.engine.specs.Labeller.LentHeaps.{replaced, window_long, lent_heap, lent_rows, lent_labels_lem, back_here, back_other, back_long}
+use Rattle.engine.specs.Labeller.LentHeaps.{replaced, window_long, lent_heap, lent_rows_lem, lent_labels_lem, back_here, back_other, back_long}
 
 -- an activation that is not refused
 pub accepted_is : (rows : ℕ) (m : Model) (r v : ℕ) → judge rows m (activation r v) ≡ 0 → Activates rows m (activation r v)
@@ -185,7 +185,7 @@ module _ {h : Heaps} {bs : List Block} {ss : List BlockState} (held : HoldsBlock
       can_activate r ok =
           let a = accepted_is (length state.block.rows) model r (label r) ok in
           let m : r < length window = omega (arith, a.row_in_lem, tall) in
-          rw (lent_heap held b l x is, lent_rows held b l x is, lent_labels_lem held b l x is, is) (record {
+          rw (lent_heap held b l x is, lent_rows_lem held b l x is, lent_labels_lem held b l x is, is) (record {
             held = held.each b l;
             row_in_lem = m;
             row_new = a.row_new;
@@ -236,7 +236,7 @@ module _ {h : Heaps} {bs : List Block} {ss : List BlockState} (held : HoldsBlock
             → ExtractionDone (HoldsBlocks after bs) ss b answer inserted parent
         unfolding extend
         extracted answer inserted parent t =
-            let g : MinExtracted part window col0 cols labels model answer inserted parent = rw (lent_rows held b l x is, lent_labels_lem held b l x is, is) at t in
+            let g : MinExtracted part window col0 cols labels model answer inserted parent = rw (lent_rows_lem held b l x is, lent_labels_lem held b l x is, is) at t in
             record {
               called = called extraction (extract model (least_from (available e model) 0 cols)) inserted (removed_by answer)
                   (ap (λ (t : Trace). t.model) (call_is extraction) ∙ rw (step_extract e (length window) cols model extraction refl)) g.changed;
@@ -250,7 +250,7 @@ module _ {h : Heaps} {bs : List Block} {ss : List BlockState} (held : HoldsBlock
         unfolding extend
         activated r y ok t =
             let k = activation r (label r) in
-            let g : RowActivated part window col0 cols labels model (activate model r (get_or labels r 0)) y = rw (lent_rows held b l x is, lent_labels_lem held b l x is, is) at t in
+            let g : RowActivated part window col0 cols labels model (activate model r (get_or labels r 0)) y = rw (lent_rows_lem held b l x is, lent_labels_lem held b l x is, is) at t in
             let a : Activates (length window) model k = rw tall (accepted_is (length state.block.rows) model r (label r) ok) in
             let f : RowActivated part window col0 cols labels model (activate model r (label r)) y = rw (label_is r (omega (arith, a.row_in_lem))) at g in
             let m : (apply state k).trace.model ≡ activate model r (label r) = ap (λ (t : Trace). t.model) (call_is k) ∙ rw (step_activate e (length window) cols model k a) in

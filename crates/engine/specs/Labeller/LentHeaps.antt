@@ -2,7 +2,7 @@
 --   replaced                                    the words with a part of them changed
 --   heap_long window_long labels_long           how long the parts of a block are
 --   Bounds bounds                               the block's numbers lie within the arrays
---   lent_heap lent_rows lent_index lent_indexed lent_labels_lem lent_holds    the lent parts are the block's
+--   lent_heap lent_rows_lem lent_index lent_indexed lent_labels_lem lent_holds    the lent parts are the block's
 --   back_here back_other back_long              the words afterwards: the block's, another block's, how many
 use Rattle.std.specs.Prelude.{◌≡◌, ◌⊎◌, ◌≢◌, List, ◌++◌, ℕ, ◌+◌, ◌-◌, ◌≤◌, ◌<◌, get_or, length, take, drop}
 use Rattle.std.proofs.Common.{sym, ap, ◌∙◌, inl, inr, take_at, drop_at, take-take, drop-drop, take-add}
@@ -101,16 +101,16 @@ module _ {h : Heaps} {bs : List Block} {ss : List BlockState} (held : HoldsBlock
   unfolding heap_in
   lent_heap = let z : slot_in numbers b + heap_words (cols_in numbers b) - slot_in numbers b ≡ heap_words (cols_in numbers b) = omega arith in rw (is, z)
 
-  pub lent_rows : take (x.bottom - x.top) (drop x.top h.tables.matrix) ≡ window_in h.tables b
+  pub lent_rows_lem : take (x.bottom - x.top) (drop x.top h.tables.matrix) ≡ window_in h.tables b
   unfolding window_in
-  lent_rows = let z : row_in numbers b + row_count_in numbers b - row_in numbers b ≡ row_count_in numbers b = omega arith in rw (is, z)
+  lent_rows_lem = let z : row_in numbers b + row_count_in numbers b - row_in numbers b ≡ row_count_in numbers b = omega arith in rw (is, z)
 
   pub lent_index : take (x.bottom - x.top) (drop x.top h.tables.index) ≡ index_in h.tables b
   unfolding index_in
   lent_index = let z : row_in numbers b + row_count_in numbers b - row_in numbers b ≡ row_count_in numbers b = omega arith in rw (is, z)
 
   pub lent_indexed : HasIndex (take (x.bottom - x.top) (drop x.top h.tables.index)) (take (x.bottom - x.top) (drop x.top h.tables.matrix)) x.col0 x.cols
-  lent_indexed = let g = held.parted.lies b l in rw (lent_index, lent_rows, is) (record { inside = g.checked.inside; indexed = g.indexed })
+  lent_indexed = let g = held.parted.lies b l in rw (lent_index, lent_rows_lem, is) (record { inside = g.checked.inside; indexed = g.indexed })
 
   pub lent_labels_lem : take (x.bottom - x.top) (drop x.top h.row_labels) ≡ labels_in h.tables h.row_labels b
   unfolding labels_in
@@ -118,7 +118,7 @@ module _ {h : Heaps} {bs : List Block} {ss : List BlockState} (held : HoldsBlock
 
   pub lent_holds : Holds (take (x.end - x.slot) (drop x.slot h.words)) (take (x.bottom - x.top) (drop x.top h.tables.matrix)) x.col0 x.cols
       (take (x.bottom - x.top) (drop x.top h.row_labels)) (get_or ss b no_block_state).trace.model
-  lent_holds = rw (lent_heap, lent_rows, lent_labels_lem, is) (held.each b l)
+  lent_holds = rw (lent_heap, lent_rows_lem, lent_labels_lem, is) (held.each b l)
 
   -- the part is back
   module _ (part : List ℕ) (lent : length part ≡ length (take (x.end - x.slot) (drop x.slot h.words))) where

@@ -26,7 +26,7 @@ use Rattle.basics.specs.ListPlaces.{different_at}
 use Rattle.basics.specs.Sequences.{length_up_from, get_or_each}
 use Rattle.preparation.specs.Prepared.{size_at, placements_of, parts_of, blocks_up_to, firsts_of, row_in, cols_in, last_in, table_count, tables_of, start_in, next_in, first_in, size_in, vertex_in}
 use Rattle.preparation.specs.Placements.{size_small, length_up_to}
-use Rattle.preparation.specs.Numbering.{Fits, no_window, no_placement, size_is, size_of_is, first_is, firsts_are}
+use Rattle.preparation.specs.Numbering.{Fits, no_window, no_placement, size_of_is, first_is, firsts_are}
 use Rattle.preparation.specs.PlaceTable.{StandsAt, vertex_at}
 use Rattle.preparation.specs.Parts.{cols_is, last_is, row_at, placed, block_count, block_of_lem, cols_are, row_vertex_is, column_is, block_piece, block_places, block_length}
 use Rattle.preparation.specs.Tables.{NumbersSame, numbers_same, tables_count, first_in_lem, size_in_lem, vertex_in_lem}

@@ -1,7 +1,7 @@
 -- The index of a session's rows, in the front of an array with a row for each that a rectangle may have.
 --   blank_front      the part that is lent to be filled
 --   index_room index_front index_served    what is filled is lent to the calls
-use Rattle.std.specs.Prelude.{◌≡◌, List, [], ◌++◌, ℕ, ◌≤◌, ◌<◌, get_or, length, take, drop, replicate}
+use Rattle.std.specs.Prelude.{◌≡◌, List, [], ◌++◌, ℕ, ◌≤◌, length, take, drop, replicate}
 use Rattle.std.proofs.Common.{sym, ap, ◌∙◌, arith, length-append, get_or-take, length-take-le, take_at}
 use Rattle.std.proofs.lemmas.List.{length-replicate, get_or-replicate}
 use Rattle.definitions.specs.Limits.{max_side, index_row_places}

@@ -1,0 +1,12 @@
+-- `labelling::settle` meets its contract: the links lead from place to place, and the pieces between two places of the vertex do not have it.
+use Prim.Native.Nat.{◌-◌}
+use Rattle.definitions.specs.Limits.{max_pieces}
+use Rattle.engine.specs.Labeller.State.{arrays}
+use Rattle.engine.specs.Labeller.Vertices.{done_at, SettleKeeps}
+use Rattle.engine.proofs.labelling.settle.Given as goal
+
+abbrev pub invariant-loop-link : goal.invariant-loop-link
+invariant-loop-link l = SettleKeeps (arrays l.matrix l.index l.tables l.initial.labels l.initial.heaps l.initial.tree) l.labels l.heaps l.tree l.v l.l l.link l.inserted
+
+abbrev pub decreases-loop-link : goal.decreases-loop-link
+decreases-loop-link l = max_pieces - done_at max_pieces l.link

@@ -1,0 +1,36 @@
+-- `judge_activation` tests in the definition's order.
+use Prim.Native.Nat.{◌≤◌, ◌<◌}
+use native.Mathlib.Omega.{arith}
+use borrow.Author.Tests.{le-leb, lt-leb, eq-eqb, ne_eqb, lt-ltb, le-ltb}
+use Rattle.definitions.specs.Limits.{max_label}
+use Rattle.engine.specs.Session.SessionCalls.{judge_activation}
+use Rattle.engine.proofs.session.judge_activation.Goals as goal
+
+pub returns-then-place-rows : goal.returns-then-place-rows
+unfolding judge_activation
+returns-then-place-rows c = simp (le-leb _ _ c.if-place-rows.true)
+
+pub returns-then-labels-place : goal.returns-then-labels-place
+unfolding judge_activation
+returns-then-labels-place c = simp (lt-leb _ _ c.if-place-rows.false, ne_eqb _ _ c.if-labels-place.true)
+
+pub returns-then-label-gt-MAX_LABEL : goal.returns-then-label-gt-MAX_LABEL
+unfolding judge_activation
+returns-then-label-gt-MAX_LABEL c =
+    let label = c.args.label in
+    let above : max_label < label = omega (arith, c.if-label-gt-MAX_LABEL.true) in
+    simp (lt-leb _ _ c.if-place-rows.false, eq-eqb _ _ c.if-labels-place.false, lt-ltb max_label label above)
+
+pub returns-then-label-floor : goal.returns-then-label-floor
+unfolding judge_activation
+returns-then-label-floor c =
+    let label = c.args.label in
+    let within : label ≤ max_label = omega (arith, c.if-label-gt-MAX_LABEL.false) in
+    simp (lt-leb _ _ c.if-place-rows.false, eq-eqb _ _ c.if-labels-place.false, le-ltb max_label label within, lt-ltb _ _ c.if-label-floor.true)
+
+pub returns : goal.returns
+unfolding judge_activation
+returns c =
+    let label = c.args.label in
+    let within : label ≤ max_label = omega (arith, c.if-label-gt-MAX_LABEL.false) in
+    simp (lt-leb _ _ c.if-place-rows.false, eq-eqb _ _ c.if-labels-place.false, le-ltb max_label label within, le-ltb _ _ c.if-label-floor.false)
