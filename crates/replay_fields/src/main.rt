@@ -1,12 +1,14 @@
 // Replays a list of fields of six columns. Each line of standard input is six bytes and byte 10; for each the field's value is written, or
-// its refusal. The files `stdin` and `stdout` are the outside vectors.
+// its refusal. A read that fails ends the program with its error; a write that fails is passed over. The files `stdin` and `stdout` are the
+// outside vectors.
 #![tactic(auto)]
 
 ghost use Rattle.std.specs.Prelude.{◌≡◌, length};
 
 use bounds::Text;
 use definitions::Field;
-use libc::{STDIN_FILENO, STDOUT_FILENO};
+use std::io;
+use std::io::Read;
 
 // The longest input: about 150,000 lines.
 const MAX_BYTES: usize = 1048576;
@@ -15,24 +17,19 @@ const MAX_BYTES: usize = 1048576;
 const INPUT_PLACES: usize = MAX_BYTES + 1;
 
 // Writes what the field at a place of the text says.
-fn write_reading(text: &[u8], at: usize) {
+fn write_reading(rt: &impl Print, text: &[u8], at: usize) {
     let field = fields::read_field(text, at);
-    match field {
-        Field::Number(x) => {
-            io::print_decimal(STDOUT_FILENO, x as u64);
-        }
-        Field::Malformed => {
-            io::write_all(STDOUT_FILENO, b"refused 3");
-        }
-    }
-    io::write_all(STDOUT_FILENO, b"\n");
+    let _ = match field {
+        Field::Number(x) => println!(rt; "{x}"),
+        Field::Malformed => println!(rt; "refused 3"),
+    };
 }
 
 // Replays the lines of a text.
-fn replay_lines(text: &[u8]) {
+fn replay_lines(rt: &impl Print, text: &[u8]) {
     let mut at = 0;
     while at < text.len() {
-        write_reading(text, at);
+        write_reading(rt, text, at);
         at += Text::LINE_OF_ONE;
     }
 }
@@ -44,12 +41,14 @@ fn input_buffer() -> [u8; INPUT_PLACES]
     [0; INPUT_PLACES]
 }
 
-fn main() {
+fn main(rt: HostRuntime) -> io::Result<()> {
     let mut input = input_buffer();
-    let read = io::read_full(STDIN_FILENO, &mut input);
-    if read > MAX_BYTES {
-        io::write_all(STDOUT_FILENO, b"the input is longer than its buffer\n");
-        return;
+    let mut places: &mut [u8] = &mut input;
+    let read = io::copy(&mut rt.reader().take(INPUT_PLACES as u64), &mut places)?;
+    if read > MAX_BYTES as u64 {
+        let _ = println!(rt; "the input is longer than its buffer");
+        return Ok(());
     }
-    replay_lines(&input[..read]);
+    replay_lines(&rt, &input[..read as usize]);
+    Ok(())
 }

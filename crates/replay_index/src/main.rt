@@ -1,14 +1,15 @@
 // Replays questions to the index of a block. Standard input is numbers: how many blocks; for each its rows and columns, the lengths row by row if both are within
 // bounds, how many questions there are, and each as its row, its first column and its end. For each question the code and the column of the answer are
-// written. Both buffers are filled with 7 before. Where an index is refused, its number is written behind `refused`. The files `stdin` and `stdout` are the
-// outside vectors.
+// written. Both buffers are filled with 7 before. Where an index is refused, its number is written behind `refused`. A read that fails ends the program with
+// its error; a write that fails is passed over. The files `stdin` and `stdout` are the outside vectors.
 #![tactic(auto)]
 
 ghost use Rattle.std.specs.Prelude.{◌≤◌, ◌≡◌, length};
 
 use bounds::{Cause, Code, Network, Session};
 use definitions::Least;
-use libc::{STDIN_FILENO, STDOUT_FILENO};
+use std::io;
+use std::io::Read;
 
 // The longest input.
 const MAX_BYTES: usize = 1048576;
@@ -132,33 +133,27 @@ fn read_rows(text: &[u8], at: usize, rows: u32, cols: u32, lengths: &mut [u32]) 
 // ---- writing
 
 // Writes a number, right-justified in eleven columns.
-fn write_number(x: u32) {
-    let blanks: &[u8] = b"           ";
-    let mut digits = [0u8; 20];
-    let n = io::decimal(x as u64, &mut digits);
-    if n < blanks.len() {
-        io::write_all(STDOUT_FILENO, &blanks[n..]);
-    }
-    io::write_all(STDOUT_FILENO, &digits[..n]);
+fn write_number(rt: &impl Print, x: u32) {
+    let _ = print!(rt; "{x:>11}");
 }
 
 // Writes a line of a code and a column.
-fn write_answer(code: u32, column: u32) {
-    write_number(code);
-    write_number(column);
-    io::write_all(STDOUT_FILENO, b"\n");
+fn write_answer(rt: &impl Print, code: u32, column: u32) {
+    write_number(rt, code);
+    write_number(rt, column);
+    let _ = println!(rt);
 }
 
-fn write_least(least: Least) {
+fn write_least(rt: &impl Print, least: Least) {
     match least {
         Least::Column(column) => {
-            write_answer(Code::DONE, column);
+            write_answer(rt, Code::DONE, column);
         }
         Least::Nothing => {
-            write_answer(Code::NOTHING, 0);
+            write_answer(rt, Code::NOTHING, 0);
         }
         Least::Refused(number) => {
-            write_answer(number, 0);
+            write_answer(rt, number, 0);
         }
     }
 }
@@ -166,17 +161,18 @@ fn write_least(least: Least) {
 // ---- a block
 
 // Builds the index of a block; a refusal is written.
-fn build(rows: u32, cols: u32, lengths: &[u32], held: &mut [u8]) {
+fn build(rt: &impl Print, rows: u32, cols: u32, lengths: &[u32], held: &mut [u8]) {
     let number = index::build_index(rows, cols, lengths, held);
     if number != Cause::NONE {
-        io::write_all(STDOUT_FILENO, b"refused");
-        write_number(number);
-        io::write_all(STDOUT_FILENO, b"\n");
+        let _ = print!(rt; "refused");
+        write_number(rt, number);
+        let _ = println!(rt);
     }
 }
 
 // Replays the question at a place of the text, and answers the place after it.
 fn replay_question(
+    rt: &impl Print,
     text: &[u8],
     at: usize,
     rows: u32,
@@ -191,12 +187,13 @@ fn replay_question(
     let first = read_number(text, row.next);
     let end = read_number(text, first.next);
     let least = index::ask_index(rows, cols, lengths, held, row.value, first.value, end.value);
-    write_least(least);
+    write_least(rt, least);
     end.next
 }
 
 // Replays the questions to a block, and answers the place after them; a text that ends early has fewer than it says.
 fn replay_questions(
+    rt: &impl Print,
     text: &[u8],
     start: usize,
     rows: u32,
@@ -211,14 +208,14 @@ fn replay_questions(
     let mut left = count.value;
     let mut at = count.next;
     while left > 0 && at < text.len() {
-        at = replay_question(text, at, rows, cols, lengths, held);
+        at = replay_question(rt, text, at, rows, cols, lengths, held);
         left -= 1;
     }
     at
 }
 
 // Replays the block at a place of the text with its questions, and answers the place after them.
-fn replay_block(text: &[u8], at: usize) -> usize
+fn replay_block(rt: &impl Print, text: &[u8], at: usize) -> usize
     requires { at ≤ length text.now }
     ensures { result ≤ length text.now }
 {
@@ -227,17 +224,17 @@ fn replay_block(text: &[u8], at: usize) -> usize
     let rows = read_number(text, at);
     let cols = read_number(text, rows.next);
     let row_end = read_rows(text, cols.next, rows.value, cols.value, &mut lengths);
-    build(rows.value, cols.value, &lengths, &mut held);
-    replay_questions(text, row_end, rows.value, cols.value, &lengths, &held)
+    build(rt, rows.value, cols.value, &lengths, &mut held);
+    replay_questions(rt, text, row_end, rows.value, cols.value, &lengths, &held)
 }
 
 // Replays the blocks of a text; a text that ends early has fewer than it says.
-fn replay_blocks(text: &[u8]) {
+fn replay_blocks(rt: &impl Print, text: &[u8]) {
     let count = read_number(text, 0);
     let mut left = count.value;
     let mut at = count.next;
     while left > 0 && at < text.len() {
-        at = replay_block(text, at);
+        at = replay_block(rt, text, at);
         left -= 1;
     }
 }
@@ -249,12 +246,14 @@ fn input_buffer() -> [u8; INPUT_PLACES]
     [0; INPUT_PLACES]
 }
 
-fn main() {
+fn main(rt: HostRuntime) -> io::Result<()> {
     let mut input = input_buffer();
-    let read = io::read_full(STDIN_FILENO, &mut input);
-    if read > MAX_BYTES {
-        io::write_all(STDOUT_FILENO, b"the input is longer than its buffer\n");
-        return;
+    let mut places: &mut [u8] = &mut input;
+    let read = io::copy(&mut rt.reader().take(INPUT_PLACES as u64), &mut places)?;
+    if read > MAX_BYTES as u64 {
+        let _ = println!(rt; "the input is longer than its buffer");
+        return Ok(());
     }
-    replay_blocks(&input[..read]);
+    replay_blocks(&rt, &input[..read as usize]);
+    Ok(())
 }

@@ -1,14 +1,16 @@
 // Replays sessions. Standard input is numbers: how many sessions; for each its rows, columns and number of calls, the lengths row by row if rows and
 // columns are within bounds, and the calls if their number is. For each session its number, inserted and removed are written; if the number is 0 then
 // its answers, how many intervals are kept and these in the order in which they stand. Every buffer is filled with 7 before: where a place that must be
-// left or written is not, `wrong` is written. The files `stdin` and `stdout` are the outside vectors.
+// left or written is not, `wrong` is written. A read that fails ends the program with its error; a write that fails is passed over. The files
+// `stdin` and `stdout` are the outside vectors.
 #![tactic(auto)]
 
 ghost use Rattle.std.specs.Prelude.{◌≤◌, ◌≡◌, length};
 
 use bounds::{Cause, Network, Session};
 use definitions::SessionAnswer;
-use libc::{STDIN_FILENO, STDOUT_FILENO};
+use std::io;
+use std::io::Read;
 
 // The longest input.
 const MAX_BYTES: usize = 1048576;
@@ -160,35 +162,29 @@ fn read_calls(text: &[u8], at: usize, count: u32, calls: &mut [u32]) -> usize
 // ---- writing
 
 // Writes a number, right-justified in eleven columns.
-fn write_number(x: u32) {
-    let blanks: &[u8] = b"           ";
-    let mut digits = [0u8; 20];
-    let n = io::decimal(x as u64, &mut digits);
-    if n < blanks.len() {
-        io::write_all(STDOUT_FILENO, &blanks[n..]);
-    }
-    io::write_all(STDOUT_FILENO, &digits[..n]);
+fn write_number(rt: &impl Print, x: u32) {
+    let _ = print!(rt; "{x:>11}");
 }
 
 // Writes a line of numbers.
-fn write_line(numbers: &[u32]) {
+fn write_line(rt: &impl Print, numbers: &[u32]) {
     let mut i = 0;
     while i < numbers.len() {
-        write_number(numbers[i]);
+        write_number(rt, numbers[i]);
         i += 1;
     }
-    io::write_all(STDOUT_FILENO, b"\n");
+    let _ = println!(rt);
 }
 
 // Writes the first answers or intervals, a line each; each has `size` numbers.
-fn write_groups(numbers: &[u32], size: usize, count: u32) {
+fn write_groups(rt: &impl Print, numbers: &[u32], size: usize, count: u32) {
     let mut at = 0;
     for _ in 0..count {
         if size > numbers.len() - at {
             return;
         }
         let end = at + size;
-        write_line(&numbers[at..end]);
+        write_line(rt, &numbers[at..end]);
         at = end;
     }
 }
@@ -240,27 +236,33 @@ fn are_clean(number: u32, count: u32, answers: &[u32], intervals: &[u32]) -> boo
         )
 }
 
-fn write_intervals(intervals: &[u32]) {
+fn write_intervals(rt: &impl Print, intervals: &[u32]) {
     let kept = count_kept(intervals);
     let line = [kept];
-    write_line(&line);
-    write_groups(intervals, Session::INTERVAL_SIZE, kept);
+    write_line(rt, &line);
+    write_groups(rt, intervals, Session::INTERVAL_SIZE, kept);
 }
 
-fn write_session(given: SessionAnswer, count: u32, answers: &[u32], intervals: &[u32]) {
+fn write_session(
+    rt: &impl Print,
+    given: SessionAnswer,
+    count: u32,
+    answers: &[u32],
+    intervals: &[u32],
+) {
     let line = [given.number, given.inserted, given.removed];
-    write_line(&line);
+    write_line(rt, &line);
     if given.number == Cause::NONE {
-        write_groups(answers, Session::ANSWER_SIZE, count);
-        write_intervals(intervals);
+        write_groups(rt, answers, Session::ANSWER_SIZE, count);
+        write_intervals(rt, intervals);
     }
     if !are_clean(given.number, count, answers, intervals) {
-        io::write_all(STDOUT_FILENO, b"wrong\n");
+        let _ = println!(rt; "wrong");
     }
 }
 
 // Runs a session on buffers that are filled before.
-fn run_session(rows: u32, cols: u32, count: u32, lengths: &[u32], calls: &[u32]) {
+fn run_session(rt: &impl Print, rows: u32, cols: u32, count: u32, lengths: &[u32], calls: &[u32]) {
     let mut answers = [FILLER; Session::ANSWER_PLACES];
     let mut intervals = [FILLER; Session::INTERVAL_PLACES];
     let given = engine::run_session(
@@ -272,11 +274,11 @@ fn run_session(rows: u32, cols: u32, count: u32, lengths: &[u32], calls: &[u32])
         &mut answers,
         &mut intervals,
     );
-    write_session(given, count, &answers, &intervals);
+    write_session(rt, given, count, &answers, &intervals);
 }
 
 // Replays the session at a place of the text, and answers the place after it.
-fn replay_session(text: &[u8], at: usize) -> usize
+fn replay_session(rt: &impl Print, text: &[u8], at: usize) -> usize
     requires { at ≤ length text.now }
     ensures { result ≤ length text.now }
 {
@@ -287,17 +289,17 @@ fn replay_session(text: &[u8], at: usize) -> usize
     let count = read_number(text, cols.next);
     let row_end = read_rows(text, count.next, rows.value, cols.value, &mut lengths);
     let end = read_calls(text, row_end, count.value, &mut calls);
-    run_session(rows.value, cols.value, count.value, &lengths, &calls);
+    run_session(rt, rows.value, cols.value, count.value, &lengths, &calls);
     end
 }
 
 // Replays the sessions of a text; a text that ends early has fewer than it says.
-fn replay_sessions(text: &[u8]) {
+fn replay_sessions(rt: &impl Print, text: &[u8]) {
     let count = read_number(text, 0);
     let mut left = count.value;
     let mut at = count.next;
     while left > 0 && at < text.len() {
-        at = replay_session(text, at);
+        at = replay_session(rt, text, at);
         left -= 1;
     }
 }
@@ -309,12 +311,14 @@ fn input_buffer() -> [u8; INPUT_PLACES]
     [0; INPUT_PLACES]
 }
 
-fn main() {
+fn main(rt: HostRuntime) -> io::Result<()> {
     let mut input = input_buffer();
-    let read = io::read_full(STDIN_FILENO, &mut input);
-    if read > MAX_BYTES {
-        io::write_all(STDOUT_FILENO, b"the input is longer than its buffer\n");
-        return;
+    let mut places: &mut [u8] = &mut input;
+    let read = io::copy(&mut rt.reader().take(INPUT_PLACES as u64), &mut places)?;
+    if read > MAX_BYTES as u64 {
+        let _ = println!(rt; "the input is longer than its buffer");
+        return Ok(());
     }
-    replay_sessions(&input[..read]);
+    replay_sessions(&rt, &input[..read as usize]);
+    Ok(())
 }
