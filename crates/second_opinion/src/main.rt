@@ -25,7 +25,7 @@ use crate::networks::{Shape, choose_shape, choose_source, make_pieces};
 use crate::numbers::{UNUSED, add, get, less, most, put, seed_of, sum, times};
 use bounds::{Cause, Network};
 use definitions::LabelAnswer;
-use libc::STDOUT_FILENO;
+use std::io;
 
 const NETWORKS: u32 = 2000;
 
@@ -212,12 +212,12 @@ fn mark_sizes(tally: &mut [u32], p: u32, sizes: &[u32]) {
 }
 
 // Counts and names a network with a labelling that did not come out as it must.
-fn count_network(tally: &mut [u32], number: u32, wrong: u32) {
+fn count_network(rt: &impl Print, tally: &mut [u32], number: u32, wrong: u32) -> io::Result<()> {
     if wrong == 0 {
-        return;
+        return Ok(());
     }
     add(tally, DIFFERENT, 1);
-    write_line(number, b" is the number of a network that differs.");
+    write_line(rt, number, " is the number of a network that differs.")
 }
 
 // Counts the places that hold no path.
@@ -236,7 +236,7 @@ fn count_closed(tally: &mut [u32], shape: Shape, lengths: &[u32]) {
 }
 
 // Makes the network of a number and labels it. Places that it does not use hold what would show if it were read.
-fn compare_network(number: u32, tally: &mut [u32]) {
+fn compare_network(rt: &impl Print, number: u32, tally: &mut [u32]) -> io::Result<()> {
     let mut sizes = [UNUSED; Network::SIZE_PLACES];
     let mut vertices = [UNUSED; Network::VERTEX_PLACES];
     let mut lengths = [UNUSED; Network::LENGTH_PLACES];
@@ -248,21 +248,21 @@ fn compare_network(number: u32, tally: &mut [u32]) {
     mark_sizes(tally, shape.p, &sizes);
     count_closed(tally, shape, &lengths);
     let wrong = compare_sources(&mut seed, shape, &sizes, &vertices, &lengths, tally);
-    count_network(tally, number, wrong);
+    count_network(rt, tally, number, wrong)
 }
 
-fn compare_networks(tally: &mut [u32]) {
+fn compare_networks(rt: &impl Print, tally: &mut [u32]) -> io::Result<()> {
     for number in 0..NETWORKS {
-        compare_network(number, tally);
+        compare_network(rt, number, tally)?;
     }
+    Ok(())
 }
 
 // ---- the listing
 
-fn write_line(x: u32, words: &[u8]) {
-    io::print_decimal(STDOUT_FILENO, x as u64);
-    io::write_all(STDOUT_FILENO, words);
-    io::write_all(STDOUT_FILENO, b"\n");
+// Where a line cannot be written, the run ends, with the error on standard error and status 1.
+fn write_line(rt: &impl Print, x: u32, words: &str) -> io::Result<()> {
+    println!(rt; "{x}{words}")
 }
 
 fn count_marks(tally: &[u32], first: u32, end: u32) -> u32 {
@@ -273,58 +273,66 @@ fn count_marks(tally: &[u32], first: u32, end: u32) -> u32 {
     marks
 }
 
-fn write_networks(tally: &[u32]) {
+fn write_networks(rt: &impl Print, tally: &[u32]) -> io::Result<()> {
     let vertices = count_marks(tally, VERTEX_COUNTS, PIECE_COUNTS);
     let pieces = count_marks(tally, PIECE_COUNTS, PIECE_SIZES);
     let sizes = count_marks(tally, PIECE_SIZES, TALLY_END);
-    write_line(NETWORKS, b" sound networks were made.");
+    write_line(rt, NETWORKS, " sound networks were made.")?;
     write_line(
+        rt,
         vertices,
-        b" numbers of vertices, of 1 to 256, occur in them.",
-    );
-    write_line(pieces, b" numbers of pieces, of 1 to 16, occur in them.");
-    write_line(sizes, b" sizes of a piece, of 1 to 24, occur in them.");
-    write_line(get(tally, CLOSED), b" networks have closed tracks.");
-    write_line(get(tally, CUT), b" of these are cut in two.");
-    write_line(get(tally, NO_PATHS), b" lengths in them are no path.");
+        " numbers of vertices, of 1 to 256, occur in them.",
+    )?;
+    write_line(rt, pieces, " numbers of pieces, of 1 to 16, occur in them.")?;
+    write_line(rt, sizes, " sizes of a piece, of 1 to 24, occur in them.")?;
+    write_line(rt, get(tally, CLOSED), " networks have closed tracks.")?;
+    write_line(rt, get(tally, CUT), " of these are cut in two.")?;
+    write_line(rt, get(tally, NO_PATHS), " lengths in them are no path.")
 }
 
-fn write_labellings(tally: &[u32]) {
+fn write_labellings(rt: &impl Print, tally: &[u32]) -> io::Result<()> {
     write_line(
+        rt,
         NETWORKS * SOURCES,
-        b" labellings were made, from 3 sources in each network.",
-    );
-    write_line(get(tally, ACCEPTED), b" labellings were accepted.");
+        " labellings were made, from 3 sources in each network.",
+    )?;
+    write_line(rt, get(tally, ACCEPTED), " labellings were accepted.")?;
     write_line(
+        rt,
         get(tally, SAME_LABELS),
-        b" labellings have Dijkstra's labels in all 256 places.",
-    );
+        " labellings have Dijkstra's labels in all 256 places.",
+    )?;
     write_line(
+        rt,
         get(tally, SAME_REACHED),
-        b" labellings reached as many vertices as Dijkstra's algorithm.",
-    );
+        " labellings reached as many vertices as Dijkstra's algorithm.",
+    )?;
     write_line(
+        rt,
         get(tally, OPEN),
-        b" labellings are of networks without closed tracks.",
-    );
+        " labellings are of networks without closed tracks.",
+    )?;
     write_line(
+        rt,
         get(tally, WITHIN),
-        b" of these inserted no more intervals than 5 times the sum of m log m.",
-    );
+        " of these inserted no more intervals than 5 times the sum of m log m.",
+    )?;
     write_line(
+        rt,
         get(tally, SHARE),
-        b" thousandths of that bound is the most that one inserted.",
-    );
+        " thousandths of that bound is the most that one inserted.",
+    )?;
     write_line(
+        rt,
         get(tally, REACHED),
-        b" vertices were reached in all labellings together.",
-    );
-    write_line(get(tally, DIFFERENT), b" networks differ.");
+        " vertices were reached in all labellings together.",
+    )?;
+    write_line(rt, get(tally, DIFFERENT), " networks differ.")
 }
 
-fn main() {
+fn main(rt: HostRuntime) -> io::Result<()> {
     let mut tally = [0u32; TALLY_PLACES];
-    compare_networks(&mut tally);
-    write_networks(&tally);
-    write_labellings(&tally);
+    compare_networks(&rt, &mut tally)?;
+    write_networks(&rt, &tally)?;
+    write_labellings(&rt, &tally)
 }
