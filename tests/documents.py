@@ -28,8 +28,11 @@ NO_NAMES = {
     "refused",
     "requires",
     "rt ci",
-    "rt staticlib exports",
-    "target/staticlib/libexports.a",
+    "rt lib exports",
+    "crates/exports/out/libexports.a",
+    "crates/labels/out/labels",
+    "rattle-kit-13f",
+    "rt version",
 }
 
 # What README.md must say of the plan's bounds, with the code's constants put in.
@@ -140,10 +143,12 @@ def constants():
     return known
 
 
-CRATES = re.findall(r"^(\w+):", read("crates.txt"), re.M)
+CRATES = re.findall(r"^(\w+)(?: staticlib)?:", read("crates.txt"), re.M)
 FOLDERS = [TOP / "crates" / crate for crate in CRATES]
 EDITS = {(folder.name, edit.stem) for folder in FOLDERS for edit in folder.glob("must-fail/*.edit")}
-SPECS = {path: spec_names(path.read_text()) for folder in FOLDERS for path in folder.glob("specs/**/*.antt")}
+# Files of definitions and laws; beside them in proofs/ lie the proofs of functions, whose names nobody cites.
+LAWS = [path for folder in FOLDERS for top in ("specs", "proofs") for path in folder.glob(f"{top}/**/*.antt")]
+SPECS = {path: spec_names(path.read_text()) for path in LAWS if path.stem not in ("Answers", "Invariants", "Proof")}
 SOURCES = [source_names(folder.name, path) for folder in FOLDERS for path in folder.glob("src/**/*.rt")]
 NAMES = set(CRATES).union(host_names(), (path.stem for path in SPECS), *SPECS.values(), *SOURCES)
 CONSTANTS = constants()
@@ -156,7 +161,8 @@ def value(name):
 
 def place_of(path, document):
     """The file or folder of a path from the top, the document, the crates, a crate, its specs or host; its ending may be left out."""
-    bases = [TOP, (TOP / document).parent, TOP / "crates", *FOLDERS, *(folder / "specs" for folder in FOLDERS), TOP / "host"]
+    laws = [folder / top for folder in FOLDERS for top in ("specs", "proofs")]
+    bases = [TOP, (TOP / document).parent, TOP / "crates", *FOLDERS, *laws, TOP / "host"]
     places = [base / (path + ending) for base in bases for ending in ("", ".antt", ".rt")]
     return next((place for place in places if place.exists()), None)
 
@@ -249,14 +255,15 @@ def check_claims(cited):
 
 
 def check_spec_files():
-    """No two crates have a spec file of the same name, so that a name alone says which is meant."""
+    """No two crates have a file of definitions or laws of the same name, so that a name alone says which is meant. A crate's laws may have the name of its definitions."""
     held = {}
     for path in SPECS:
         if path.stem != "Lib":
-            held.setdefault(path.stem, []).append(str(path.relative_to(TOP)))
+            held.setdefault(path.stem, {})[path.relative_to(TOP).parts[1]] = str(path.relative_to(TOP))
     for name, paths in sorted(held.items()):
         if len(paths) > 1:
-            fault(paths[0], f"{paths[1]} has the same name, {name}")
+            first, second, *_ = paths.values()
+            fault(first, f"{second} has the same name, {name}")
 
 
 def check_crates():

@@ -1,6 +1,6 @@
 #!/usr/bin/env bash
 # Runs the program `labels`, or the one that is named, where its output takes nothing: it must say so on standard error, and be silent there
-# when all is written. A Rattle program has no exit status of its own, it always ends with 0, so the line is all that tells.
+# when all is written. The program ends with status 0 all the same, so the line is all that tells.
 . "$(dirname "$0")/common"
 echo 'labels: the listing could not be written whole' >"$room/told"
 : >"$room/silent"

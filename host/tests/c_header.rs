@@ -51,7 +51,7 @@ fn the_example_in_c() {
         .args(["-std=c99", "-pedantic", "-Wall", "-Wextra", "-Werror", "-I"])
         .arg(folder.join("include"))
         .arg(folder.join("examples/depot.c"))
-        .arg(folder.join("../target/staticlib/libexports.a"))
+        .arg(folder.join("../crates/exports/out/libexports.a"))
         .arg("-o")
         .arg(&program)
         .status()

@@ -23,7 +23,7 @@ const MOST_CONSTANTS: usize = 2 * 1024;
 
 /// What the tool prints about the library.
 fn listed(tool: &str, words: &[&str]) -> String {
-    let library = Path::new(env!("CARGO_MANIFEST_DIR")).join("../target/staticlib/libexports.a");
+    let library = Path::new(env!("CARGO_MANIFEST_DIR")).join("../crates/exports/out/libexports.a");
     let output = Command::new(tool).args(words).arg(library).output().expect(tool);
     assert!(output.status.success(), "{tool} fails");
     String::from_utf8(output.stdout).expect("plain text")
