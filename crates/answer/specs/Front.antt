@@ -1,37 +1,8 @@
--- A program reads the front of its input, and no more.
---   input_places listing_front   the listing of a text depends on its first 60,001 bytes only
---   part_read                   the part of a buffer that was read
---   front_listed                what is written for the front of an input is written for the whole
-use Rattle.std.specs.Prelude.{◌≡◌, ◌⊎◌, List, ℕ, suc, ◌≤◌, ◌<◌, length, take}
-use Rattle.std.proofs.Common.{sym, ◌∙◌, inl, inr, arith, length-take-le, take_all}
-use Rattle.std.proofs.lemmas.Bool.{lt-leb}
+-- A program reads the front of its input, and no more: the laws of it stand in proofs/.
+--   input_places                the bytes that it has room for
+use Rattle.std.specs.Prelude.{ℕ, suc}
 use Rattle.definitions.specs.Limits.{max_text}
-use Rattle.definitions.specs.Reading.{judge_length, read_text}
-use Rattle.definitions.specs.Entries.{refusal_line, plan_listing, listing, write_listing}
-use Rattle.logic.specs.Tests.{split_at}
 
 -- one byte more than a text may have shows that it is too long
 abbrev pub input_places : ℕ
 input_places = suc max_text
-
-too_long : (text : List ℕ) → max_text < length text → listing text ≡ refusal_line 2
-unfolding listing plan_listing read_text judge_length
-too_long text h = rw (lt-leb (length text) max_text h)
-
--- A text of at most 60,000 bytes is its own front; of a longer one the front has more than 60,000 too, and both are refused.
-pub listing_front : (text : List ℕ) → listing text ≡ listing (take input_places text)
-listing_front text = go (split_at max_text (length text))
-  where
-    go : (max_text < length text) ⊎ (length text ≤ max_text) → listing text ≡ listing (take input_places text)
-    go (inl h) = too_long text h ∙ sym (too_long (take input_places text) (omega (arith, length-take-le input_places text (omega arith))))
-    go (inr h) = rw (take_all input_places text (omega arith))
-
--- what was read into a buffer: as much as is said, and no more than it holds
-pub part_read : (buffer : List ℕ) (read end : ℕ) → (end ≡ read) ⊎ ((length buffer ≤ read) × (end ≡ length buffer)) → take end buffer ≡ take read buffer
-part_read buffer read end (inl e) = rw e
-part_read buffer read end (inr h) = take_all end buffer (omega arith) ∙ sym (take_all read buffer h.0)
-
--- what is written for the front of an input is what is written for the whole
-pub front_listed : (input buffer out : List ℕ) (read : ℕ) → length buffer ≡ input_places → take read buffer ≡ take (length buffer) input → write_listing (take read buffer) out ≡ write_listing input out
-unfolding write_listing
-front_listed input buffer out read long e = rw (e, long, ← listing_front input)

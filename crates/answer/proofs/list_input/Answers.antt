@@ -7,7 +7,8 @@ use native.Mathlib.Omega.{arith}
 use lib.ListN.{length}
 use lib.Seq.{length-take-le}
 use Rattle.definitions.specs.Entries.{write_listing}
-use Rattle.answer.specs.Front.{input_places, part_read, front_listed}
+use Rattle.answer.specs.Front.{input_places}
+use Rattle.answer.proofs.Front.{part_read, front_listed}
 use Rattle.answer.proofs.list_input.Goals.{then-end-gt-INPUT_PLACES, else-end-gt-INPUT_PLACES}
 use Rattle.answer.proofs.list_input.Goals as goal
 
