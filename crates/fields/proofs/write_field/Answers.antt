@@ -26,7 +26,7 @@ pub returns : goal.returns
 unfolding write_field judge_write has_places first_cause
 returns c =
     let a = c.args in
-    let size = eq-eqb _ _ c.if-line-ne-BYTES.false in
+    let long = eq-eqb _ _ c.if-line-ne-BYTES.false in
     let place = le-leb _ _ c.if-place-gt-LAST_PLACE.false in
     let nine : column_bytes * a.place + column_bytes - column_bytes * a.place ≡ column_bytes = omega arith in
-    record { number = simp (size, place); written = simp (size, place) (rw (c.fill_number.ensures, nine, drop-drop column_bytes (column_bytes * a.place) a.line.now)) }
+    record { number = simp (long, place); written = simp (long, place) (rw (c.fill_number.ensures, nine, drop-drop column_bytes (column_bytes * a.place) a.line.now)) }

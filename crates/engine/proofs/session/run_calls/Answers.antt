@@ -4,7 +4,7 @@ use Prim.Native.Nat.{◌+◌, ◌≤◌}
 use native.Mathlib.Omega.{arith}
 use borrow.Author.Rules.{rules}
 use Rattle.engine.specs.Session.Demand3.{most_inserted}
-use Rattle.engine.specs.Session.SessionChain.{kept_none, kept_lent, kept_more, kept_small, ran}
+use Rattle.engine.proofs.SessionChain.{kept_none, kept_lent, kept_more, kept_small, ran}
 use Rattle.engine.proofs.session.run_calls.Goals as goal
 
 pub loop-k-init : goal.loop-k-init

@@ -1,0 +1,2 @@
+-- The laws that stand apart from the definitions they speak of.
+pub mod SessionChain
