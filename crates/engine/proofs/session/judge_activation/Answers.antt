@@ -32,5 +32,5 @@ pub returns : goal.returns
 unfolding judge_activation
 returns c =
     let label = c.args.label in
-    let within : label ≤ max_label = omega (arith, c.if-label-gt-MAX_LABEL.false) in
-    simp (lt-leb _ _ c.if-place-rows.false, eq-eqb _ _ c.if-labels-place.false, le-ltb max_label label within, le-ltb _ _ c.if-label-floor.false)
+    let allowed : label ≤ max_label = omega (arith, c.if-label-gt-MAX_LABEL.false) in
+    simp (lt-leb _ _ c.if-place-rows.false, eq-eqb _ _ c.if-labels-place.false, le-ltb max_label label allowed, le-ltb _ _ c.if-label-floor.false)
