@@ -255,15 +255,15 @@ def check_claims(cited):
 
 
 def check_spec_files():
-    """No two crates have a file of definitions or laws of the same name, so that a name alone says which is meant. A crate's laws may have the name of its definitions."""
+    """No two files of definitions or laws have the same name, so that a name alone says which is meant, but a crate's definitions in specs/ and the laws of them in proofs/."""
     held = {}
     for path in SPECS:
         if path.stem != "Lib":
-            held.setdefault(path.stem, {})[path.relative_to(TOP).parts[1]] = str(path.relative_to(TOP))
-    for name, paths in sorted(held.items()):
-        if len(paths) > 1:
-            first, second, *_ = paths.values()
-            fault(first, f"{second} has the same name, {name}")
+            held.setdefault(path.stem, []).append(path.relative_to(TOP).parts[1:3] + (str(path.relative_to(TOP)),))
+    for name, files in sorted(held.items()):
+        tops, crates = {top for _, top, _ in files}, {crate for crate, _, _ in files}
+        if len(files) > len(tops) or len(crates) > 1:
+            fault(files[0][2], f"{files[1][2]} has the same name, {name}")
 
 
 def check_crates():
