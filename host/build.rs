@@ -1,4 +1,4 @@
-// Links the proved library, which `rt lib exports` writes into the folder of that crate.
+// Links the proved library, which `rt lib` in crates/exports writes there.
 use std::path::Path;
 
 fn main() {
@@ -7,7 +7,7 @@ fn main() {
     let library = folder.join("libexports.a");
     println!("cargo:rerun-if-changed={}", library.display());
     if !library.exists() {
-        panic!("crates/exports/out/libexports.a is missing: run `rt lib exports` at the top of the repository");
+        panic!("crates/exports/out/libexports.a is missing: run `rt lib` in crates/exports");
     }
     println!("cargo:rustc-link-search=native={}", folder.display());
     println!("cargo:rustc-link-lib=static=exports");

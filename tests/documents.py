@@ -28,7 +28,7 @@ NO_NAMES = {
     "refused",
     "requires",
     "rt ci",
-    "rt lib exports",
+    "rt lib",
     "crates/exports/out/libexports.a",
     "crates/labels/out/labels",
     "rattle-kit-13f",

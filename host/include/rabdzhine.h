@@ -1,7 +1,7 @@
 /*
  * Rabdzhine: track metres from district tables. The proved library for C.
  *
- * Build it with `rt lib exports`; link crates/exports/out/libexports.a (x86-64).
+ * Build it with `rt lib` in crates/exports; link crates/exports/out/libexports.a (x86-64).
  *
  * Every entry accepts every input. What it cannot serve it refuses by a number and leaves or fills the lent buffers as said below.
  * A buffer is lent as a pointer and the number of its elements, which must be readable (and writable unless const) for the call.
