@@ -9,9 +9,9 @@
 --   TextLaws                                  the same, of the whole text
 --   NeverRefused Diagonal                     what a text is refused for: of `refused_by_6_exactly` in the file Text
 --   FieldBound                                the bound on a field's value; its steps, a digit more, serve the code's reader too
---   Members Causes ReadLaws                   parts of these: members of lists, causes that are 0, what was read taken apart
+--   Members CauseLaws ReadLaws                parts of these: members of lists, causes that are 0, what was read taken apart
 pub mod Members
-pub mod Causes
+pub mod CauseLaws
 pub mod MongeLaws
 pub mod LeastLaws
 pub mod RunProofs

@@ -3,8 +3,10 @@
 --   Model                                   the intervals, what an extraction finds, the best of an interval
 --   Index                                   what is found in a stretch
 --   Text                                    what an accepted text is, and what 6 is left for
+--   Causes                                  no two judgements have one number
 --   Entries                                 what fixes the interval buffer of a session
 --   Laws                                    the proofs
+pub mod Causes
 pub mod Laws
 pub mod Blocks
 pub mod Model

@@ -17,8 +17,6 @@ use Rattle.definitions.specs.declared.ReadAnswer.{ReadAnswer}
 use Rattle.definitions.specs.declared.LabelAnswer.{LabelAnswer}
 use Rattle.definitions.specs.declared.RouteAnswer.{RouteAnswer}
 use Rattle.definitions.specs.declared.SessionAnswer.{SessionAnswer}
-use Rattle.definitions.specs.declared.Least.{Least}
-use Rattle.definitions.specs.declared.Least.TheVariants.{Nothing, Refused}
 use Rattle.definitions.specs.Limits.{max_arcs, max_side, max_calls, size_places, vertex_places, length_places, row_places, label_places, route_places, rectangle_places, index_row_places, index_places, call_places, answer_places, interval_places, call_size, answer_size, column_bytes, line_fields, line_places, last_place, no_target, unused_interval}
 use Rattle.definitions.specs.Lists.{all, up_from, padded, within, first_cause}
 use Rattle.definitions.specs.Metres.{is_length}
@@ -28,7 +26,7 @@ use Rattle.definitions.specs.Blocks.{blocks}
 use Rattle.definitions.specs.Best.{Best, nobody, by}
 use Rattle.definitions.specs.Intervals.{Interval, interval, by_first_column}
 use Rattle.definitions.specs.Model.{intervals, Listed, with_best, Call, Answer, trace}
-use Rattle.definitions.specs.Index.{index_of, ask, least_found}
+use Rattle.definitions.specs.Index.{index_of, ask, Least, no_column, turned_away, least_found}
 use Rattle.definitions.specs.Labelling.{State, label_of, labelling, reached, extractions, insertions, held_label, labels, route_to}
 use Rattle.definitions.specs.Judgement.{judge_source, judge_target, pieces_of, judge_network}
 use Rattle.definitions.specs.Fields.{blank, line_end, field_at, decimal, nine_columns}
@@ -164,7 +162,7 @@ unfoldable pub ask_index : ℕ → ℕ → List ℕ → List ℕ → ℕ → ℕ
 ask_index rows cols lengths index i first end =
     let cause = judge_question rows cols lengths index in
     let found = least_found (ask cols (rectangle_of lengths i) index first end (index_row_places * i) 0 cols) in
-    cond (eqb cause 0) (cond (ltb i rows && (ltb first end && leb end cols)) found Nothing) (Refused cause)
+    cond (eqb cause 0) (cond (ltb i rows && (ltb first end && leb end cols)) found no_column) (turned_away cause)
 
 -- ---- the labelling
 

@@ -3,11 +3,9 @@
 --   six_at field_at length_at                  the same at a place of a text
 --   field_answer length_answer                the number and the value of each case of the program's answers
 --   decimal right_justified nine_columns      a number in digits, in a field that is written
-use Rattle.std.specs.Prelude.{Bool, true, false, cond, not, ◌&&◌, ◌||◌, List, [], ◌∷◌, ◌++◌, ℕ, zero, suc, ◌+◌, ◌-◌, ◌*◌, ◌/◌, ◌%◌, eqb, leb, ltb, length, take, drop, replicate}
-use Rattle.definitions.specs.declared.Field.{Field}
-use Rattle.definitions.specs.declared.Field.TheVariants.{Number, Malformed}
+use Rattle.std.specs.Prelude.{Bool, true, false, cond, not, ◌&&◌, ◌||◌, List, [], ◌∷◌, ◌++◌, ℕ, zero, suc, ◌+◌, ◌-◌, ◌*◌, ◌/◌, ◌%◌, eqb, leb, ltb, length, take, drop, replicate, Option, Some, None}
 use Rattle.definitions.specs.declared.Length.{Length}
-use Rattle.definitions.specs.declared.Length.TheVariants.{Number as ALength, NoPath, Malformed as NoLength}
+use Rattle.definitions.specs.declared.Length.TheVariants.{Number, NoPath, Malformed}
 use Rattle.definitions.specs.Limits.{column_bytes, no_path}
 use Rattle.definitions.specs.Lists.{every}
 
@@ -88,14 +86,14 @@ abbrev pub length_at : List ℕ → ℕ → FieldAnswer
 length_at = six_at length_of
 
 -- the number and the value of each case of the program's answers
-abbrev pub field_answer : Field → FieldAnswer
-field_answer (Number x) = a_field x
-field_answer Malformed = no_field
+abbrev pub field_answer : Option ℕ → FieldAnswer
+field_answer (Some x) = a_field x
+field_answer None = no_field
 
 abbrev pub length_answer : Length → FieldAnswer
-length_answer (ALength x) = a_field x
+length_answer (Number x) = a_field x
 length_answer NoPath = a_field no_path
-length_answer NoLength = no_field
+length_answer Malformed = no_field
 
 -- ---- nine columns
 

@@ -4,11 +4,11 @@
 --   column_of held_at row_index index_of       what the index holds for a row, and for a rectangle
 --   in_stretch held_in ask     a question, by halves, whatever the index holds
 --   least_found least_answer   its answer
-use Rattle.std.specs.Prelude.{true, false, cond, ◌&&◌, ◌||◌, ℕ, zero, suc, ◌+◌, ◌-◌, ◌/◌, ◌≤◌, ◌<◌, ltb, leb, get_or}
+use Rattle.std.specs.Prelude.{true, false, cond, ◌&&◌, ◌||◌, ℕ, zero, suc, ◌+◌, ◌-◌, ◌/◌, ◌≤◌, ◌<◌, ltb, leb, get_or, Option, Some, None, Result, Ok, Err}
 use mathlib.Core.List.{List, map, flat_map}
-use Rattle.definitions.specs.declared.Least.{Least}
-use Rattle.definitions.specs.declared.Least.TheVariants.{Column, Nothing, Refused}
+use Rattle.definitions.specs.declared.Cause.{Cause}
 use Rattle.definitions.specs.declared.LeastAnswer.{LeastAnswer}
+use Rattle.definitions.specs.Causes.{number_of}
 use Rattle.definitions.specs.Limits.{index_row_places, index_places}
 use Rattle.definitions.specs.Lists.{up_from, padded}
 use Rattle.definitions.specs.Network.{Rectangle}
@@ -72,13 +72,25 @@ ask (suc fuel) row held a b p s k = elim (leb b s || leb (s + k) a) [
   ]
 ]
 
+-- its answer: a column, that there is none, or the number of the cause that turned it away
+pub data Least : Type 0 where
+  a_column : ℕ → Least
+  no_column : Least
+  turned_away : ℕ → Least
+
+-- the same for each case of the answer as the program has it
+abbrev pub least_of : Result (Option ℕ) Cause → Least
+least_of (Ok (Some c)) = a_column c
+least_of (Ok None) = no_column
+least_of (Err cause) = turned_away (number_of cause)
+
 -- what is found, as the answer
 abbrev pub least_found : Best → Least
-least_found nobody = Nothing
-least_found (by c n) = Column c
+least_found nobody = no_column
+least_found (by c n) = a_column c
 
 -- the code and the column of each answer: 0 with a column, 50 where there is none, else why it was refused
 abbrev pub least_answer : Least → LeastAnswer
-least_answer (Column c) = record { code = 0; column = c }
-least_answer Nothing = record { code = nothing_left; column = 0 }
-least_answer (Refused k) = record { code = k; column = 0 }
+least_answer (a_column c) = record { code = 0; column = c }
+least_answer no_column = record { code = nothing_left; column = 0 }
+least_answer (turned_away k) = record { code = k; column = 0 }

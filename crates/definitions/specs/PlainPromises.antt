@@ -8,8 +8,6 @@ use Rattle.std.specs.Prelude.{◌≡◌, not, List, map, ◌≢◌, ℕ, suc, �
 use Rattle.definitions.specs.declared.LabelAnswer.{LabelAnswer}
 use Rattle.definitions.specs.declared.RouteAnswer.{RouteAnswer}
 use Rattle.definitions.specs.declared.SessionAnswer.{SessionAnswer}
-use Rattle.definitions.specs.declared.Least.{Least}
-use Rattle.definitions.specs.declared.Least.TheVariants.{Column, Nothing}
 use Rattle.definitions.specs.Limits.{max_label, label_places, unreached}
 use Rattle.definitions.specs.Lists.{Every, count}
 use Rattle.definitions.specs.Network.{Open, Distance, RouteArc, Routed}
@@ -17,7 +15,7 @@ use Rattle.definitions.specs.Monge.{closed}
 use Rattle.definitions.specs.Blocks.{weight}
 use Rattle.definitions.specs.Intervals.{Interval, Rising, Distinct, FirstsRise}
 use Rattle.definitions.specs.Model.{fresh, intervals, Listed, HasBest, trace, AllExtractLeast, allowances}
-use Rattle.definitions.specs.Index.{IsLeast}
+use Rattle.definitions.specs.Index.{IsLeast, Least, a_column, no_column}
 use Rattle.definitions.specs.Judgement.{pieces_of}
 use Rattle.definitions.specs.Entries.{rectangle_of, calls_of, answers_in, intervals_of, arcs_of}
 
@@ -45,10 +43,10 @@ pub record PlainSession (rows cols count : ℕ) (lengths calls : List ℕ) (r : 
 
 -- A stretch of a row of the rectangle gets the lowest column of least length there; one that is empty or leaves the row, or a row that is not there, gets none.
 pub record PlainLeast (rows cols : ℕ) (lengths : List ℕ) (i first end : ℕ) (r : Least) : Type 0 where
-  pub some : i < rows → first < end → end ≤ cols → (c : ℕ) × (r ≡ Column c) × IsLeast (rectangle_of lengths i) first end c
-  pub no_row : rows ≤ i → r ≡ Nothing
-  pub empty : end ≤ first → r ≡ Nothing
-  pub leaves : cols < end → r ≡ Nothing
+  pub some : i < rows → first < end → end ≤ cols → (c : ℕ) × (r ≡ a_column c) × IsLeast (rectangle_of lengths i) first end c
+  pub no_row : rows ≤ i → r ≡ no_column
+  pub empty : end ≤ first → r ≡ no_column
+  pub leaves : cols < end → r ≡ no_column
 
 -- The labels are distances and at most `max_label`, places above n are unreached, and the counts are bounded by the sum over the pieces of m·⌈log₂ m⌉, that of
 -- the intervals where no table shows that there is no path.

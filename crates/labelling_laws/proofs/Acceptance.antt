@@ -7,7 +7,7 @@ use Rattle.definitions.specs.Lists.{every, different, within, Every}
 use Rattle.definitions.specs.Network.{Piece, entry, size_of}
 use Rattle.definitions.specs.Blocks.{blocks_of, passes}
 use Rattle.definitions.specs.Judgement.{judge_size, judge_vertices, judge_rows, judge_blocks, judge_piece}
-use Rattle.definitions.proofs.Laws.Causes.{no_cause, test_holds, within_is, vertices_in, length_short, Short, rows_short}
+use Rattle.definitions.proofs.Laws.CauseLaws.{no_cause, test_holds, within_is, vertices_in, length_short, Short, rows_short}
 use Rattle.definitions.proofs.Laws.Members.{every_is}
 use Rattle.logic.specs.Tests.{and_right}
 use Rattle.basics.specs.ListLaws.{different_is}

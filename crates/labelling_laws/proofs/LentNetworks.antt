@@ -14,7 +14,7 @@ use Rattle.definitions.specs.Labelling.{labelling, route_to}
 use Rattle.definitions.specs.Judgement.{judge_bounds, judge_source, judge_target, judge_piece, piece_at, pieces_of, judge_from, judge_network}
 use Rattle.definitions.specs.Entries.{has_places, judge_buffers, judge_labelling, judge_route, route_answer, route_network}
 use Rattle.definitions.specs.PlainPromises.{PlainRoute}
-use Rattle.definitions.proofs.Laws.Causes.{no_cause, bounds_in, target_in_lem}
+use Rattle.definitions.proofs.Laws.CauseLaws.{no_cause, bounds_in, target_in_lem}
 use Rattle.logic.specs.Tests.{Equal, equal, differ, equality}
 use Rattle.basics.specs.Buffers.{buffers_are}
 use Rattle.basics.specs.Sequences.{length_up_from}

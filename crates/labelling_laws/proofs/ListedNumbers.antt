@@ -12,7 +12,7 @@ use Rattle.definitions.specs.Network.{Piece, size_of}
 use Rattle.definitions.specs.Blocks.{logarithm_from, logarithm, blocks, weight}
 use Rattle.definitions.specs.Labelling.{label_of, labelling, reached, extractions, insertions}
 use Rattle.definitions.specs.Fields.{max_column, decimal, right_justified, nine_columns}
-use Rattle.definitions.proofs.Laws.Causes.{bounds_in, source_in}
+use Rattle.definitions.proofs.Laws.CauseLaws.{bounds_in, source_in}
 use Rattle.basics.specs.ListLaws.{count_le}
 use Rattle.labelling_laws.specs.Acceptance.{Accepted, Suits}
 use Rattle.labelling_laws.proofs.Acceptance.{suits}

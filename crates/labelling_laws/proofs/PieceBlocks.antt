@@ -19,7 +19,7 @@ use Rattle.definitions.specs.Lists.{count, mem, total, Every}
 use Rattle.definitions.specs.Network.{Piece, Open, Distance, distance, none, RouteArc, IsArc, vertices_on, Route, Routed}
 use Rattle.definitions.specs.Blocks.{blocks, weight}
 use Rattle.definitions.specs.Labelling.{Settled, State, label_of, columns, labelling, reached, extractions, insertions, held_label, labels, route_to}
-use Rattle.definitions.proofs.Laws.Causes.{bounds_in, source_in}
+use Rattle.definitions.proofs.Laws.CauseLaws.{bounds_in, source_in}
 use Rattle.logic.specs.Tests.{Equal, equal, differ, equality}
 use Rattle.basics.specs.ListLaws.{every_map, Different, is_different, counted, count_same}
 use Rattle.labelling_laws.specs.Labels.{Status, settled, unsettled}

@@ -70,7 +70,8 @@ const COUNT: usize = Network::ROW_PLACES * (Network::ROW_PLACES - 1) / 2;
 
 const PLACES: usize = 3 * COUNT;
 
-// The list itself. A constant is copied at each use: a caller copies it once and lends it to `split_in`.
+// The list itself. A constant is copied at each use: a caller copies it once and lends it to `split_in`. It stays flat, since `table` and `split_in` promise for
+// bytes, a list of any length too.
 pub fn table() -> [u8; PLACES]
     ensures { result ≡ flattened all_splits }
 {

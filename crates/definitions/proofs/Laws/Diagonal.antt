@@ -20,7 +20,7 @@ use Rattle.definitions.specs.Fields.{field_bytes, field_at, length_at}
 use Rattle.definitions.specs.Reading.{Read, refused, value, ◌>>=◌, require, read_field, read_line, line_bytes, read_rows, read_piece, piece_bytes, read_pieces, Question, read_question, Plan, read_body, read_plan, judge_length, read_text}
 use Rattle.definitions.specs.Written.{written_field, written_length, written_line, written_piece, StoppedPiece, DiagonalFirst}
 use Rattle.definitions.proofs.Laws.Members.{every_test}
-use Rattle.definitions.proofs.Laws.Causes.{test_holds, bounds_in, size_in_lem, rows_short, Short}
+use Rattle.definitions.proofs.Laws.CauseLaws.{test_holds, bounds_in, size_in_lem, rows_short, Short}
 use Rattle.definitions.proofs.Laws.ReadLaws.{value_same, bind_value, require_value, line_length}
 use Rattle.definitions.specs.Laws.FieldBound.{max_field}
 use Rattle.definitions.proofs.Laws.FieldKinds.{plain_fields, length_fields}

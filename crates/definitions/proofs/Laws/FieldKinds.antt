@@ -12,7 +12,7 @@ use Rattle.definitions.specs.Lists.{every}
 use Rattle.definitions.specs.Metres.{is_length}
 use Rattle.definitions.specs.Fields.{dash, field_bytes, is_digit, skip_blanks, is_numeral, FieldAnswer, a_field, no_field, field_of, is_dash, length_of, six_at, field_at, length_at, right_justified}
 use Rattle.definitions.specs.Written.{FieldWriting, written_field, written_length}
-use Rattle.definitions.proofs.Laws.Causes.{length_short}
+use Rattle.definitions.proofs.Laws.CauseLaws.{length_short}
 use Rattle.definitions.proofs.Laws.FieldProofs.{digit_in, justified, field_written}
 use Rattle.definitions.specs.Laws.FieldBound.{max_field}
 use Rattle.definitions.proofs.Laws.FieldBound.{six_bound}

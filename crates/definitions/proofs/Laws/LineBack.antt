@@ -21,7 +21,7 @@ use Rattle.definitions.specs.Judgement.{judge_size, judge_vertices, judge_row, j
 use Rattle.definitions.specs.Fields.{line_end, field_bytes, FieldAnswer, a_field, six_at, field_at}
 use Rattle.definitions.specs.Reading.{value, read_field, read_fields, judge_line_end, read_line, line_bytes, read_rows, read_piece, piece_bytes, read_pieces, judge_end, target_in, question_of, question_size, judge_asked, read_question, Plan, read_body, read_plan}
 use Rattle.definitions.proofs.Laws.Members.{every_imp}
-use Rattle.definitions.proofs.Laws.Causes.{no_cause, size_in_lem, bounds_in, source_in, target_in_lem, vertices_in, Short, rows_short}
+use Rattle.definitions.proofs.Laws.CauseLaws.{no_cause, size_in_lem, bounds_in, source_in, target_in_lem, vertices_in, Short, rows_short}
 use Rattle.definitions.specs.Written.{FieldWriting, written_field, written_length, written_line, written_piece, question_fields, written, SoundPiece, SoundPlan}
 use Rattle.definitions.proofs.Laws.FieldKinds.{Mirrors, plain_fields, length_fields}
 use Rattle.definitions.specs.Laws.FieldBound.{max_field}

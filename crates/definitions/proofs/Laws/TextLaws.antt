@@ -4,7 +4,7 @@ use Rattle.std.proofs.Common.{leb-true, le-leb}
 use Rattle.definitions.specs.Limits.{max_text}
 use Rattle.definitions.specs.Reading.{value, require, Plan, judge_length, read_text}
 use Rattle.definitions.specs.Written.{written, SoundPlan}
-use Rattle.definitions.proofs.Laws.Causes.{test_holds}
+use Rattle.definitions.proofs.Laws.CauseLaws.{test_holds}
 use Rattle.definitions.proofs.Laws.ReadLaws.{bind_value, require_value}
 use Rattle.definitions.proofs.Laws.LineProofs.{text_read}
 use Rattle.definitions.proofs.Laws.LineBack.{text_back}
