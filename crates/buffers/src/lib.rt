@@ -7,9 +7,5 @@ ghost use Rattle.std.specs.Prelude.{◌≡◌, length, replicate};
 pub fn fill(buffer: &mut [u32], x: u32)
     ensures { buffer.new ≡ replicate (length buffer.old) x }
 {
-    let mut i = 0;
-    while i < buffer.len() {
-        buffer[i] = x;
-        i += 1;
-    }
+    buffer.fill(x);
 }

@@ -7,17 +7,17 @@ use Rattle.fields.specs.NineColumns.{columns, columns_last, columns_next}
 use Rattle.fields.proofs.fill_columns.Goals as goal
 
 pub loop-i-init : goal.loop-i-init
-loop-i-init c = (search rules, search rules, columns_last c.args.part.now _ _ c.requires)
+loop-i-init c = record { long = search rules; filled = columns_last c.args.part.now _ _ c.requires }
 
 pub loop-i-preserved : goal.loop-i-preserved
 loop-i-preserved c =
     let l = c.loop-i in
     let next = columns_next l.part l.i l.rest (omega arith) (omega arith) in
-    (search rules, search rules, rw c.column.ensures (l.invariant.2 ∙ next))
+    record { long = search rules; filled = rw c.column.ensures (l.invariant.filled ∙ next) }
 
 pub returns : goal.returns
 unfolding columns
 returns c =
     let l = c.loop-i in
     let none : l.i ≡ 0 = omega arith in
-    sym (l.invariant.2 ∙ rw none)
+    sym (l.invariant.filled ∙ rw none)

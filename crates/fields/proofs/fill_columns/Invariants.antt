@@ -2,14 +2,10 @@
 -- whole.
 use mathlib.Core.Path.{◌≡◌}
 use mathlib.Core.List.{[], ◌∷◌, ◌++◌}
-use Prim.Native.Nat.{◌≤◌}
 use lib.ListN.{length, drop}
 use Rattle.definitions.specs.Limits.{column_bytes}
 use Rattle.fields.specs.NineColumns.{last_column, columns}
 use Rattle.fields.proofs.fill_columns.Given as goal
 
 abbrev pub invariant-loop-i : goal.invariant-loop-i
-invariant-loop-i l = (l.i ≤ last_column) × (length l.part ≡ column_bytes) × (columns last_column l.x ++ (l.last ∷ []) ≡ columns l.i l.rest ++ drop l.i l.part)
-
-abbrev pub decreases-loop-i : goal.decreases-loop-i
-decreases-loop-i l = l.i
+invariant-loop-i l = record { long : length l.part ≡ column_bytes; filled : columns last_column l.x ++ (l.last ∷ []) ≡ columns l.i l.rest ++ drop l.i l.part }

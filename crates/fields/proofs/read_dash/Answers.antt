@@ -1,33 +1,10 @@
 -- `fields::read_dash` meets its contract: the six bytes at the place, where they stand in the text.
-use mathlib.Core.Path.{◌≡◌, sym, ◌∙◌}
-use Prim.Native.Nat.{◌+◌, ◌-◌, ◌≤◌}
-use native.Mathlib.Omega.{arith}
-use borrow.Author.Rules.{rules}
-use borrow.Author.Tests.{leb-true}
-use lib.ListN.{length}
-use Rattle.definitions.specs.Fields.{field_bytes, six_at}
+use mathlib.Core.Path.{◌∙◌}
+use Rattle.fields.specs.SixColumns.{dash_of, six_there, six_missing}
 use Rattle.fields.proofs.read_dash.Goals as goal
 
-inside : (c : goal.Else-not-is_inside) → let a = c.args in a.at + field_bytes ≤ length a.text.now
-inside c = leb-true _ _ (sym c.is_inside.ensures ∙ c.if-not-is_inside.false)
+pub returns-in-Some : goal.returns-in-Some
+returns-in-Some c = c.dash_of.ensures ∙ six_there dash_of _ _ _ c.in-Some.ensures
 
-pub returns-then-not-is_inside : goal.returns-then-not-is_inside
-unfolding six_at
-returns-then-not-is_inside c = rw (sym c.is_inside.ensures ∙ c.if-not-is_inside.true)
-
-pub overflow_add-at : goal.overflow_add-at
-overflow_add-at c =
-    let fits = inside c in
-    search rules
-
-pub slice_bounds-dash_of-end : goal.slice_bounds-dash_of-end
-slice_bounds-dash_of-end c =
-    let fits = inside c in
-    search rules
-
-pub returns : goal.returns
-unfolding six_at
-returns c =
-    let a = c.args in
-    let six : a.at + field_bytes - a.at ≡ field_bytes = omega arith in
-    rw (sym c.is_inside.ensures ∙ c.if-not-is_inside.false) (c.dash_of.ensures ∙ rw six)
+pub returns-in-None : goal.returns-in-None
+returns-in-None c = six_missing dash_of _ _ c.in-None.ensures

@@ -5,14 +5,14 @@ use Rattle.definitions.proofs.Laws.FieldKinds.{number_length, agrees_at_lem}
 use Rattle.fields.specs.SixColumns.{length_dash}
 use Rattle.fields.proofs.read_length.Goals as goal
 
-pub returns-in_default : goal.returns-in_default
-returns-in_default c =
+pub returns-in-None : goal.returns-in-None
+returns-in-None c =
     let a = c.args in
-    let none = sym c.read_field-field.ensures ∙ ap field_answer c.in_default.is in
+    let none = sym c.read_field.ensures ∙ ap field_answer c.in-None.is in
     c.read_dash.ensures ∙ sym (length_dash a.text.now a.at none)
 
-pub returns : goal.returns
-returns c =
+pub returns-in-Some : goal.returns-in-Some
+returns-in-Some c =
     let a = c.args in
-    let number = sym c.read_field-field.ensures ∙ ap field_answer c.in-Number.is in
+    let number = sym c.read_field.ensures ∙ ap field_answer c.in-Some.is in
     sym (agrees_at_lem length_of number_length a.text.now a.at _ number)
