@@ -11,7 +11,7 @@ use Rattle.definitions.specs.Blocks.{Window, windows_of, rows_of, columns_of, bl
 use Rattle.definitions.specs.Monge.{is_monge}
 use Rattle.definitions.specs.Judgement.{judge_size, judge_blocks, judge_piece, piece_at}
 use Rattle.definitions.specs.Entries.{has_places}
-use Rattle.definitions.proofs.Laws.Causes.{passed, last, size_in_lem}
+use Rattle.definitions.proofs.Laws.CauseLaws.{passed, last, size_in_lem}
 use Rattle.logic.specs.Tests.{Equal, equal, differ, equality}
 use Rattle.splits.specs.Windows.{Inside}
 use Rattle.splits.proofs.Windows.{windows_inside}

@@ -1,13 +1,12 @@
 -- The judgement of a lent rectangle, in the order in which the programs test.
 --   row_fits lengths_fit judge_lengths        its sides and its lengths
 --   first_append                           the causes of two lists
---   judged_sides .. judged_none            the number that each test leads to
 --   judged_rectangle                       then comes the inequality
 --   judged_early judged_block judged_whole   the number of the whole, from these
 --   Sides sides_in Lengths lengths_in_lem      what a rectangle that passes these may rely on
 --   AcceptedRectangle accepted_rectangle   what one that passes all may rely on
 use Rattle.std.specs.Prelude.{◌≡◌, refl, Bool, true, false, ◌&&◌, ◌≢◌, ℕ, ◌≤◌, ◌<◌, eqb}
-use Rattle.std.proofs.Common.{sym, ◌∙◌, eq-eqb, ne_eqb}
+use Rattle.std.proofs.Common.{◌∙◌, eq-eqb, ne_eqb}
 use Rattle.std.proofs.Math.Path.{ap}
 use Rattle.std.proofs.Math.Bool.{cond}
 use mathlib.Core.List.{List, [], ◌∷◌, ◌++◌}
@@ -16,7 +15,7 @@ use Rattle.definitions.specs.Lists.{all, within, first_cause}
 use Rattle.definitions.specs.Metres.{IsNumber, is_length}
 use Rattle.definitions.specs.Monge.{is_monge}
 use Rattle.definitions.specs.Entries.{rectangle_of, judge_sides, judge_rectangle}
-use Rattle.definitions.proofs.Laws.Causes.{refused, last, no_cause, test_holds, within_is, length_short}
+use Rattle.definitions.proofs.Laws.CauseLaws.{last, no_cause, test_holds, within_is, length_short}
 use Rattle.definitions.proofs.Laws.Members.{all_at}
 use Rattle.logic.specs.Tests.{and_left, and_right, Equal, equal, differ, equality}
 
@@ -61,9 +60,6 @@ sides_in rows cols h =
     record { rows_some = r.0; rows_few = r.1; cols_some = c.0; cols_few = c.1 }
 
 module _ (rows cols : ℕ) (lengths : List ℕ) where
-  abbrev Fit : Bool
-  Fit = lengths_fit lengths rows cols
-
   abbrev Passes : Bool
   Passes = is_monge (rectangle_of lengths) rows cols
 
@@ -74,18 +70,6 @@ module _ (rows cols : ℕ) (lengths : List ℕ) where
   Whole = judge_rectangle rows cols (rectangle_of lengths)
 
   -- ---- the lengths
-
-  pub judged_sides : (cause : ℕ) → cause ≡ judge_sides rows cols → cause ≢ 0 → cause ≡ Early
-  unfolding judge_lengths
-  judged_sides cause e n = rw (← e) (sym (refused cause _ n))
-
-  pub judged_lengths : (cause : ℕ) → cause ≡ judge_sides rows cols → cause ≡ 0 → Fit ≡ false → 6 ≡ Early
-  unfolding judge_lengths lengths_fit row_fits first_cause
-  judged_lengths cause e z f = rw (← e, z, f)
-
-  pub judged_none : (cause : ℕ) → cause ≡ judge_sides rows cols → cause ≡ 0 → Fit ≡ true → 0 ≡ Early
-  unfolding judge_lengths lengths_fit row_fits first_cause
-  judged_none cause e z f = rw (← e, z, f)
 
   -- the sides are within their limits, and so are the lengths that are numbers
   pub record Lengths : Type 0 where

@@ -2,8 +2,8 @@
 use mathlib.Core.Path.{◌≡◌}
 use mathlib.Core.Bool.{Bool, ◌&&◌}
 use mathlib.Core.List.{List}
-use Prim.Native.Nat.{ℕ, ◌≤◌, ◌-◌}
-use lib.ListN.{length, drop}
+use Prim.Native.Nat.{ℕ}
+use lib.ListN.{drop}
 use Rattle.definitions.specs.Lists.{every, different, within}
 use Rattle.judgements.proofs.judge_vertices.Given as goal
 
@@ -11,7 +11,4 @@ abbrev pub sound : ℕ → List ℕ → Bool
 sound n vertices = every (within n) vertices && different vertices
 
 abbrev pub invariant-loop-i : goal.invariant-loop-i
-invariant-loop-i l = (l.i ≤ length l.vertices) × (sound l.n l.vertices ≡ sound l.n (drop l.i l.vertices))
-
-abbrev pub decreases-loop-i : goal.decreases-loop-i
-decreases-loop-i l = length l.vertices - l.i
+invariant-loop-i l = sound l.n l.vertices ≡ sound l.n (drop l.i l.vertices)

@@ -16,5 +16,5 @@ returns-then-a-eq-NO_PATH c =
 pub returns : goal.returns
 returns c =
     let x = c.args in
-    rw (c.wide.ensures.0, c.wide-2.ensures.0, c.wide-3.ensures.0, c.wide-4.ensures.0)
+    rw (c.from.ensures, c.from-2.ensures, c.from-3.ensures, c.from-4.ensures)
     (numbers x.a x.d x.b x.c c.if-b-eq-NO_PATH.false c.if-c-eq-NO_PATH.false c.if-a-eq-NO_PATH.false c.if-d-eq-NO_PATH.false)

@@ -1,18 +1,17 @@
 -- `judge_lengths`: the sides, then the lengths.
-use mathlib.Core.Path.{sym, ◌∙◌}
-use Rattle.rectangles.specs.RectangleJudgement.{sides_in, judged_sides, judged_lengths, judged_none}
+use mathlib.Core.Path.{sym}
+use borrow.Author.Rules.{rules}
+use Rattle.judgements.proofs.OneAfterAnother.{first_is, next_is, last_is}
+use Rattle.rectangles.specs.RectangleJudgement.{row_fits, lengths_fit, judge_lengths, sides_in}
 use Rattle.rectangles.proofs.judge_lengths.Goals as goal
 
-pub returns-then-cause-ne-NONE : goal.returns-then-cause-ne-NONE
-returns-then-cause-ne-NONE c = judged_sides _ _ _ _ c.judge_sides-cause.ensures c.if-cause-ne-NONE.true
+pub returns-in_err-judge_sides : goal.returns-in_err-judge_sides
+unfolding judge_lengths
+returns-in_err-judge_sides c = search (rules, first_is)
 
 pub lengths_fit-requires : goal.lengths_fit-requires
-lengths_fit-requires c =
-    let s = sides_in _ _ (sym c.judge_sides-cause.ensures ∙ c.if-cause-ne-NONE.false) in
-    (s.rows_few, s.cols_few)
-
-pub returns-then-not-lengths_fit : goal.returns-then-not-lengths_fit
-returns-then-not-lengths_fit c = judged_lengths _ _ _ _ c.judge_sides-cause.ensures c.if-cause-ne-NONE.false (sym c.lengths_fit.ensures ∙ c.if-not-lengths_fit.true)
+lengths_fit-requires c = let s = sides_in _ _ (sym c.in_ok-judge_sides.ensures) in (s.rows_few, s.cols_few)
 
 pub returns : goal.returns
-returns c = judged_none _ _ _ _ c.judge_sides-cause.ensures c.if-cause-ne-NONE.false (sym c.lengths_fit.ensures ∙ c.if-not-lengths_fit.false)
+unfolding judge_lengths lengths_fit row_fits
+returns c = search (rules, next_is, last_is)

@@ -1,4 +1,4 @@
--- `row_fits_lem`: a table may hold the lengths passed.
+-- `row_fits`: a table may hold the lengths passed.
 use mathlib.Core.Path.{◌≡◌, sym, ◌∙◌}
 use native.Mathlib.Omega.{arith}
 use borrow.Author.Rules.{rules}
@@ -10,7 +10,7 @@ use Rattle.rectangles.proofs.row_fits.Goals as goal
 
 pub loop-k-init : goal.loop-k-init
 unfolding all
-loop-k-init c = (search rules, search rules)
+loop-k-init c = search rules
 
 pub returns-then-not-is_length : goal.returns-then-not-is_length
 unfolding row_fits
@@ -21,8 +21,8 @@ returns-then-not-is_length c =
 pub loop-k-preserved : goal.loop-k-preserved
 loop-k-preserved c =
     let a = c.args in
-    (search rules, all_next (fits a.lengths.now a.i) c.loop-k.k c.loop-k.invariant.1 (rw (← c.entry_at.ensures) (sym c.is_length.ensures ∙ c.if-not-is_length.false)))
+    all_next (fits a.lengths.now a.i) c.loop-k.k c.loop-k.invariant (rw (← c.entry_at.ensures) (sym c.is_length.ensures ∙ c.if-not-is_length.false))
 
 pub returns : goal.returns
 unfolding row_fits
-returns c = let e : c.loop-k.k ≡ c.args.cols = omega arith in rw (← e, c.loop-k.invariant.1)
+returns c = let e : c.loop-k.k ≡ c.args.cols = omega arith in rw (← e, c.loop-k.invariant)
