@@ -1,5 +1,5 @@
 -- What filling leaves in an array of rows, and what is asked of it: the proofs behind the file `IndexTheorems`.
---   left_uneven left_outside filled_whole filling, case by case
+--   left_uneven left_outside left_empty filled_whole     filling, case by case
 --   index_at                              what one row becomes
 --   index_tall index_long index_keeps     filling keeps the rows, their places and the numbers at other places
 --   index_held                            what is filled holds the index
@@ -18,7 +18,7 @@ use Rattle.logic.specs.Tests.{Order, less, more, order, Truth, holds, fails, tru
 use Rattle.index.specs.HeldRows.{lengths_in, held_from, HeldAt, filled_row, fill_rows, filled_index, Indexed, least_column}
 use Rattle.index.specs.StretchHalves.{least_some}
 use Rattle.index.specs.Questions.{ask_least}
-use Rattle.index.specs.HeldLaws.{RowsLong, row_held, row_before, row_behind, each_tall, each_at, rows_long}
+use Rattle.index.specs.HeldLaws.{RowsLong, row_held, row_before, row_behind, each_tall, each_at, rows_few, rows_long}
 
 module _ (index rows : List (List ℕ)) (col0 cols : ℕ) where
   -- the two cases of filling
@@ -51,6 +51,13 @@ module _ (index rows : List (List ℕ)) (col0 cols : ℕ) where
     pub filled_whole : col0 + cols ≤ row_places → fill_rows index rows col0 col0 cols ≡ filled_index index rows col0 cols
     unfolding filled_index
     filled_whole h = rw (eq-eqb (length index) (length rows) tall, le-leb (col0 + cols) row_places h)
+
+  pub left_empty : cols < 2 → index ≡ filled_index index rows col0 cols
+  left_empty few = go which
+    where
+      go : Filled → index ≡ filled_index index rows col0 cols
+      go (left e) = sym e
+      go (filled _ _ e) = rows_few index rows col0 col0 cols few ∙ sym e
 
   -- what one row becomes
   abbrev fill : List ℕ → List ℕ → List ℕ

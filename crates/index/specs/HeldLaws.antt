@@ -6,7 +6,7 @@
 --   small_none small_two small_three     at most three columns
 --   row_long .. row_cut            a row, filled: its places, what it holds, what stays; the whole from its halves
 --   each-..                        a change of each row, and a loop over the rows
---   rows_long rows_halved rows_cut each row, filled
+--   rows_few rows_long rows_halved rows_cut     each row, filled
 use Rattle.std.specs.Prelude.{◌≡◌, cond, ltb, take}
 use Rattle.std.proofs.Math.Path.{refl, ap}
 use Rattle.std.proofs.Common.{sym, ◌∙◌, add-one, arith, length-append, take_all}
@@ -259,6 +259,13 @@ module _ (f : List ℕ → List ℕ → List ℕ) where
   each_same g (held ∷ index) (row ∷ rows) h = rw (h 0 (omega arith), each_same g index rows (λ r l. h (suc r) (omega arith)))
 
 -- ---- each row, filled
+
+-- a single column needs no place
+pub rows_few : (index rows : List (List ℕ)) (p s k : ℕ) → k < 2 → index ≡ fill_rows index rows p s k
+unfolding fill_rows each_row
+rows_few [] rows p s k few = refl
+rows_few (held ∷ index) [] p s k few = refl
+rows_few (held ∷ index) (row ∷ rows) p s k few = ap (λ (h : List ℕ). h ∷ index) (small_none row p s held k few) ∙ ap (λ (t : List (List ℕ)). filled_row held row p s k ∷ t) (rows_few index rows p s k few)
 
 module _ (index rows : List (List ℕ)) (p s k : ℕ) (tall : length index ≡ length rows) (long : RowsLong index) (fits : p + k ≤ row_places) where
   pub rows_long : RowsLong (fill_rows index rows p s k)

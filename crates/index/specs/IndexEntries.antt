@@ -1,24 +1,25 @@
 -- What the entries on a lent rectangle return, case by case, and what a question gets in plain terms.
---   differ_lengths .. buffers_sized         the judgement of the buffers
+--   a_number buffers_fit buffers_sized      the judgement of the buffers
 --   built_buffers built_cause built_done    building
 --   question_buffers question_sides Ready ready     the judgement of a question
 --   asked_refused .. asked_found            asking
 --   built_least answered                    a question to an index as built
-use Rattle.std.specs.Prelude.{◌≡◌, refl, ◌&&◌, List, ◌≢◌, ℕ, ◌+◌, ◌-◌, ◌*◌, ◌≤◌, ◌<◌, length}
+use Rattle.std.specs.Prelude.{◌≡◌, refl, ◌&&◌, List, Ok, Err, ◌≢◌, ℕ, ◌+◌, ◌-◌, ◌*◌, ◌≤◌, ◌<◌, length}
 use Rattle.std.proofs.Math.Path.{sym, ap}
 use Rattle.std.proofs.Common.{◌∙◌}
 use native.Mathlib.Omega.{arith}
 use borrow.Author.Tests.{eq-eqb, ne_eqb, eqb-true, lt-ltb, le-ltb, le-leb, lt-leb}
 use Rattle.std.proofs.Math.Dec.{eqb}
-use Rattle.definitions.specs.declared.Least.{Least}
-use Rattle.definitions.specs.declared.Least.TheVariants.{Column, Nothing, Refused}
+use Rattle.definitions.specs.declared.Cause.{Cause}
+use Rattle.definitions.specs.Causes.{number_of}
+use Rattle.definitions.proofs.Causes.{verdict_lem}
 use Rattle.definitions.specs.Limits.{row_places, rectangle_places, index_row_places, index_places}
 use Rattle.definitions.specs.Best.{by}
-use Rattle.definitions.specs.Index.{IsLeast, index_of, ask, least_found}
+use Rattle.definitions.specs.Index.{IsLeast, index_of, ask, Least, a_column, no_column, turned_away, least_found}
 use Rattle.definitions.proofs.Index.{least_in_lem}
 use Rattle.definitions.specs.Entries.{has_places, rectangle_of, judge_sides, judge_rectangle, AfterIndex, judge_index_buffers, judge_index, build_index, judge_question, ask_index}
 use Rattle.definitions.specs.PlainPromises.{PlainLeast}
-use Rattle.definitions.proofs.Laws.Causes.{refused, passed, last, no_cause, test_holds}
+use Rattle.definitions.proofs.Laws.CauseLaws.{refused, passed, last, no_cause, test_holds}
 use Rattle.logic.specs.Tests.{Order, less, more, order, and_left, and_right, Equal, equal, differ, equality}
 use Rattle.basics.specs.Sequences.{get_or_each}
 use Rattle.rectangles.specs.RectangleJudgement.{Sides, sides_in}
@@ -28,17 +29,13 @@ use Rattle.index.specs.StretchHalves.{least_some}
 use Rattle.index.specs.Questions.{ask_least, ask_same, ask_moved}
 use Rattle.index.specs.IndexRows.{held_row, length_index, row_placed, held_placed}
 
+-- a cause has a number
+pub a_number : (cause : Cause) → number_of cause ≢ 0
+a_number cause h = let e = verdict_lem (Err cause) (Ok tt) h in cc
+
 -- ---- the buffers
 
 module _ (lengths index : List ℕ) where
-  pub differ_lengths : length lengths ≢ rectangle_places → 1 ≡ judge_index_buffers lengths index
-  unfolding judge_index_buffers has_places
-  differ_lengths h = rw (ne_eqb (length lengths) rectangle_places h)
-
-  pub differ_index : length lengths ≡ rectangle_places → length index ≢ index_places → 1 ≡ judge_index_buffers lengths index
-  unfolding judge_index_buffers has_places
-  differ_index e h = rw (eq-eqb (length lengths) rectangle_places e, ne_eqb (length index) index_places h)
-
   pub buffers_fit : length lengths ≡ rectangle_places → length index ≡ index_places → 0 ≡ judge_index_buffers lengths index
   unfolding judge_index_buffers has_places
   buffers_fit e f = rw (eq-eqb (length lengths) rectangle_places e, eq-eqb (length index) index_places f)
@@ -103,21 +100,21 @@ module _ (rows cols : ℕ) (lengths index : List ℕ) where
   -- ---- asking
 
   module _ (i first end : ℕ) (cause : ℕ) (judged : cause ≡ judge_question rows cols lengths index) where
-    pub asked_refused : cause ≢ 0 → Refused cause ≡ ask_index rows cols lengths index i first end
+    pub asked_refused : cause ≢ 0 → turned_away cause ≡ ask_index rows cols lengths index i first end
     unfolding ask_index
     asked_refused n = rw (← judged, ne_eqb cause 0 n)
 
     module _ (none : cause ≡ 0) where
-      pub asked_no_row : rows ≤ i → Nothing ≡ ask_index rows cols lengths index i first end
+      pub asked_no_row : rows ≤ i → no_column ≡ ask_index rows cols lengths index i first end
       unfolding ask_index
       asked_no_row h = rw (← judged, eq-eqb cause 0 none, le-ltb i rows h)
 
       module _ (row : i < rows) where
-        pub asked_empty : end ≤ first → Nothing ≡ ask_index rows cols lengths index i first end
+        pub asked_empty : end ≤ first → no_column ≡ ask_index rows cols lengths index i first end
         unfolding ask_index
         asked_empty h = rw (← judged, eq-eqb cause 0 none, lt-ltb i rows row, le-ltb first end h)
 
-        pub asked_leaves : first < end → cols < end → Nothing ≡ ask_index rows cols lengths index i first end
+        pub asked_leaves : first < end → cols < end → no_column ≡ ask_index rows cols lengths index i first end
         unfolding ask_index
         asked_leaves some h = rw (← judged, eq-eqb cause 0 none, lt-ltb i rows row, lt-ltb first end some, lt-leb end cols h)
 
@@ -128,7 +125,7 @@ module _ (rows cols : ℕ) (lengths index : List ℕ) where
 
         -- what is found in the row and in its part of the index, as they were loaded
         pub asked_found : (line held : List ℕ) (c : ℕ) → first < end → end ≤ cols → line ≡ grid_row lengths i → held ≡ held_row index i
-            → by c (lengths_in line c) ≡ ask cols (lengths_in line) held first end 0 0 cols → Column c ≡ ask_index rows cols lengths index i first end
+            → by c (lengths_in line c) ≡ ask cols (lengths_in line) held first end 0 0 cols → a_column c ≡ ask_index rows cols lengths index i first end
         unfolding grid_row
         asked_found line held c some inside e f q =
             let s = (ready cause judged none).sides_fit in
@@ -177,16 +174,16 @@ module _ (rows cols : ℕ) (lengths before : List ℕ) (done : (build_index rows
       leaves = λ h. none_leaves (order i rows) (order first end) h;
     }
       where
-        none_empty : Order i rows → end ≤ first → ask_index rows cols lengths index i first end ≡ Nothing
+        none_empty : Order i rows → end ≤ first → ask_index rows cols lengths index i first end ≡ no_column
         none_empty (less _ row) h = sym (asked_empty rows cols lengths index i first end 0 question_none refl row h)
         none_empty (more _ row) h = sym (asked_no_row rows cols lengths index i first end 0 question_none refl row)
 
-        none_leaves : Order i rows → Order first end → cols < end → ask_index rows cols lengths index i first end ≡ Nothing
+        none_leaves : Order i rows → Order first end → cols < end → ask_index rows cols lengths index i first end ≡ no_column
         none_leaves (less _ row) (less _ some) h = sym (asked_leaves rows cols lengths index i first end 0 question_none refl row some h)
         none_leaves (less _ row) (more _ few) h = none_empty (order i rows) few
         none_leaves (more _ row) _ h = sym (asked_no_row rows cols lengths index i first end 0 question_none refl row)
 
-        found : i < rows → first < end → end ≤ cols → (c : ℕ) × (ask_index rows cols lengths index i first end ≡ Column c) × IsLeast (rectangle_of lengths i) first end c
+        found : i < rows → first < end → end ≤ cols → (c : ℕ) × (ask_index rows cols lengths index i first end ≡ a_column c) × IsLeast (rectangle_of lengths i) first end c
         found row some inside =
             let s = sides_in rows cols sides_none in
             let e = rectangle_of lengths i in
@@ -195,8 +192,7 @@ module _ (rows cols : ℕ) (lengths before : List ℕ) (done : (build_index rows
             let f = least_some e first (end - first) (omega arith) in
             (f.column, asked_whole rows cols lengths index i first end 0 question_none refl row some inside ∙ ap least_found (least ∙ f.here), least_in_lem e first end f.column (e f.column) some f.here)
 
--- an answer, with what it is in plain terms
+-- an answer, in plain terms
 pub answered : (rows cols : ℕ) (lengths index : List ℕ) (i first end : ℕ) (r : Least) → r ≡ ask_index rows cols lengths index i first end
-    → (r ≡ ask_index rows cols lengths index i first end)
-    × ((before : List ℕ) → (build_index rows cols lengths before).number ≡ 0 → index ≡ (build_index rows cols lengths before).index → PlainLeast rows cols lengths i first end r)
-answered rows cols lengths index i first end r e = (e, λ before done built. rw e (built_least rows cols lengths before done index built i first end))
+    → (before : List ℕ) → (build_index rows cols lengths before).number ≡ 0 → index ≡ (build_index rows cols lengths before).index → PlainLeast rows cols lengths i first end r
+answered rows cols lengths index i first end r e before done built = rw e (built_least rows cols lengths before done index built i first end)

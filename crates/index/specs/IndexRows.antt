@@ -2,7 +2,7 @@
 --   stored_rows held_row                      rows that are stored there, and one that is read from there
 --   stored_none stored_more length_stored   none, one more, how many places there are
 --   stored_index                            of rows that hold their index, it is the rectangle's
---   zero_rows zeros_tall zeros_long zeros_stored     rows of zeros that are filled
+--   zero_rows zeros_tall zeros_stored     rows of zeros that are filled
 --   index_same length_index                 of which only used entries count
 --   row_placed held_placed                  where the index of a row stands
 use Rattle.std.specs.Prelude.{◌≡◌, replicate}
@@ -25,7 +25,7 @@ use Rattle.monge.specs.Matrix.{at}
 use Rattle.index.specs.HeldRows.{lengths_in, held_from, HeldAt, filled_row, filled_index}
 use Rattle.index.specs.StretchHalves.{length_held, held_same}
 use Rattle.index.specs.HeldLaws.{RowsLong}
-use Rattle.index.specs.FilledRows.{index_tall, index_long, index_at}
+use Rattle.index.specs.FilledRows.{index_tall, index_at}
 
 -- the first n rows, one behind the other; unused places are 0
 unfoldable pub stored_rows : List (List ℕ) → ℕ → List ℕ
@@ -135,9 +135,6 @@ zero_row (suc n) (suc i) l = zero_row n i (omega arith)
 module _ (held rectangle : List (List ℕ)) (cols : ℕ) (tall : length rectangle ≡ max_side) (few : cols ≤ row_places) (filled : held ≡ filled_index zero_rows rectangle 0 cols) where
   pub zeros_tall : length held ≡ max_side
   zeros_tall = ap length filled ∙ index_tall zero_rows rectangle 0 cols
-
-  pub zeros_long : RowsLong held
-  zeros_long = rw filled (index_long zero_rows rectangle 0 cols (λ r l. ap length (zero_row max_side r l)))
 
   pub zeros_stored : (rows : ℕ) → rows ≤ max_side → stored_rows held rows ≡ index_of (at rectangle) rows cols
   zeros_stored rows h =

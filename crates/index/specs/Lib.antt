@@ -3,6 +3,7 @@ pub mod HeldRows
 pub mod PutPlaces
 pub mod StretchHalves
 pub mod Questions
+pub mod RowQuestions
 pub mod HeldLaws
 pub mod FilledRows
 pub mod IndexRows

@@ -4,21 +4,21 @@
 --   ask_inside ask_left ask_right ask_both                 a question in the cases that the code tests
 --   ask_least                                              as built, the index gives the least of the columns asked for
 --   ask_same ask_moved                                     it reads the columns of the stretch and its places only
---   find_whole find_end find_first find_second find_both   what the code has found, case by case
---   find_inside find_cut find_two                          where it lies; a stretch that is not covered, and that it has two columns
+--   find_whole find_first find_second find_both            what the code has found, case by case
+--   find_inside                                            where it lies
 --   start_both until_end until_first until_both            .. up to an end, alone and with a best before it
 --   from_end from_second from_both                         .. from a first on, with a best behind it
-use Rattle.std.specs.Prelude.{◌≡◌, true, false, cond, ◌&&◌, List, ◌++◌, ◌⊎◌, leb, ltb}
+use Rattle.std.specs.Prelude.{◌≡◌, cond, ◌&&◌, List, ◌++◌, ◌⊎◌, leb, ltb}
 use Rattle.std.proofs.Math.Path.{refl, sym, ap}
 use Rattle.std.proofs.Common.{◌∙◌, subst, inl, inr}
 use Prim.Native.Nat.{ℕ, zero, suc, ◌+◌, ◌-◌, ◌/◌, ◌≤◌, ◌<◌}
 use native.Mathlib.Omega.{arith}
-use borrow.Author.Tests.{lt-ltb, le-ltb, le-leb, lt-leb, leb-true, leb-false}
+use borrow.Author.Tests.{lt-ltb, le-ltb, le-leb, lt-leb}
 use Rattle.std.proofs.Math.ListN.{get_or, length}
 use Rattle.definitions.specs.Best.{Best, nobody, by, lesser, least_from}
 use Rattle.definitions.specs.Index.{column_of, least_in, in_stretch, held_in, ask}
 use Rattle.definitions.proofs.Laws.LeastLaws.{least_from_same}
-use Rattle.logic.specs.Tests.{Order, less, more, order, Truth, holds, fails, truth, and_left, and_right}
+use Rattle.logic.specs.Tests.{Order, less, more, order}
 use Rattle.heap_laws.proofs.Lesser.{lesser_nobody, lesser_assoc}
 use Rattle.index.specs.HeldRows.{held_from, HeldAt}
 use Rattle.index.specs.PutPlaces.{holds_first, holds_rest, holds_left, holds_right}
@@ -325,23 +325,6 @@ module _ (row : ℕ → ℕ) (held : List ℕ) (p s k a b : ℕ) where
   -- all of them are asked for
   pub find_whole : (r : ℕ) → 1 ≤ k → a ≤ s → s + k ≤ b → r ≡ held_in held p s k → at r ≡ asked p s k
   find_whole r o l m e = ap at e ∙ sym (ask_inside row held a b p s k o (omega arith) (omega arith) l m)
-
-  pub find_end : (r : ℕ) → 1 ≤ k → (leb a s && leb (s + k) b) ≡ true → r ≡ held_in held p s k → at r ≡ asked p s k
-  find_end r o h e =
-      let l = leb-true a s (and_left (leb a s) (leb (s + k) b) h) in
-      let m = leb-true (s + k) b (and_right (leb a s) (leb (s + k) b) h) in
-      find_whole r o l m e
-
-  pub find_cut : (leb a s && leb (s + k) b) ≡ false → (s < a) ⊎ (b < s + k)
-  find_cut h = go (truth (leb a s))
-    where
-      go : Truth (leb a s) → (s < a) ⊎ (b < s + k)
-      go (holds t) = inr (leb-false (s + k) b (rw t at h))
-      go (fails t) = inl (leb-false a s t)
-
-  -- a stretch that is neither covered nor missed has two columns
-  pub find_two : s < b → a < s + k → (s < a) ⊎ (b < s + k) → 2 ≤ k
-  find_two h j u = two row held a b s k h j u
 
   pub find_first : (r : ℕ) → s < b → a < s + k → (s < a) ⊎ (b < s + k) → b ≤ s + k / 2 → at r ≡ asked (p + 1) s (k / 2) → at r ≡ asked p s k
   find_first r h j u m q = q ∙ sym (ask_left row held a b p s k h j u m)

@@ -2,19 +2,23 @@
 // found by halves. It is built and asked for a lent rectangle, and for windows of an array of rows.
 #![tactic(auto)]
 
-ghost use Rattle.std.specs.Prelude.{◌≡◌, ◌&&◌, ℕ, ◌+◌, ◌≤◌, ◌<◌, leb, length};
+ghost use Rattle.std.specs.Prelude.{◌≡◌, ℕ, ◌+◌, ◌≤◌, ◌<◌, length};
 ghost use Rattle.definitions.specs.Limits.{row_places, index_row_places};
 ghost use Rattle.definitions.specs.Best.{by, lesser};
-ghost use Rattle.definitions.specs.Index.{held_in, ask};
+ghost use Rattle.definitions.specs.Index.{held_in};
 ghost use Rattle.index.specs.HeldRows.{lengths_in, filled_row, fill_rows, filled_index, least_column};
-ghost use Rattle.index.specs.HeldLaws.{held_of, HalvesHeld, cut_row, cut_rows, RowsLong, RowsHalved};
+ghost use Rattle.index.specs.HeldLaws.{held_of, HalvesHeld, cut_row, cut_rows, RowsHalved};
+ghost use Rattle.index.specs.RowQuestions.{column, asked};
 
 mod entries;
+mod stretch;
 
 use bounds::Network;
 pub use entries::{ask_index, build_index};
+use stretch::Stretch;
 
 // Of two columns the one of lesser length, the first if they are equal.
+#[tactic(auto, unfolding(definitions::specs::Best::lesser))]
 fn lesser_column(row: &[u32; Network::ROW_PLACES], l: usize, r: usize) -> usize
     requires { (l < row_places) × (r < row_places) }
     ensures least { by result (lengths_in row.now result) ≡ lesser (by l (lengths_in row.now l)) (by r (lengths_in row.now r)) }
@@ -27,159 +31,124 @@ fn lesser_column(row: &[u32; Network::ROW_PLACES], l: usize, r: usize) -> usize
 }
 
 // ---- the question
-// Each function is about `count` columns from `start` on, whose places begin at `at`.
 
-// A held byte as a column.
-fn wide(x: u8) -> usize
-    ensures { result ≡ x }
-{
-    x as usize
+// The lengths of a row, and the numbers held for its stretches.
+#[derive(Clone, Copy)]
+struct Row<'a> {
+    lengths: &'a [u32; Network::ROW_PLACES],
+    held: &'a [u8; Network::INDEX_PLACES],
 }
 
-// The column held for all of them. A number that is no column of theirs counts as the first one.
-fn held_column(held: &[u8; Network::INDEX_PLACES], at: usize, start: usize, count: usize) -> usize
-    requires { (1 ≤ count) × (at + count ≤ row_places) × (start + count ≤ row_places) }
-    ensures held { result ≡ held_in held.now at start count }
-    ensures inside { (start ≤ result) × (result < start + count) }
-{
-    if count < 2 {
-        return start;
-    }
-    let c = wide(held[at]);
-    if c < start {
-        return start;
-    }
-    if c >= start + count {
-        return start;
-    }
-    c
-}
-
-// Whether all of them are among those from `first` up to `end`.
-fn covers(first: usize, end: usize, start: usize, count: usize) -> bool
-    requires { start + count ≤ row_places }
-    ensures { result ≡ (leb first start && leb (start + count) end) }
-{
-    first <= start && start + count <= end
-}
-
-// The lesser of `best`, a column before these, and of those up to `end`; `best` if they are equal. The promise is
-// of a question from any column up to `start`.
-fn find_until(
-    row: &[u32; Network::ROW_PLACES],
-    held: &[u8; Network::INDEX_PLACES],
-    end: usize,
-    best: usize,
-    at: usize,
-    start: usize,
-    count: usize,
-) -> usize
-    requires sized { (1 ≤ count) × (start + count ≤ row_places) × (at + count ≤ row_places) }
-    requires some { (start < end) × (best < row_places) }
-    ensures { (a : ℕ) → a ≤ start → by result (lengths_in row.now result) ≡ lesser (by best (lengths_in row.now best)) (ask count (lengths_in row.now) held.now a end at start count) }
-{
-    if start + count <= end {
-        let c = held_column(held, at, start, count);
-        return lesser_column(row, best, c);
-    }
-    let half = count / 2;
-    let middle = start + half;
-    if end <= middle {
-        return find_until(row, held, end, best, at + 1, start, half);
-    }
-    let c = held_column(held, at + 1, start, half);
-    let next = lesser_column(row, best, c);
-    find_until(row, held, end, next, at + half, middle, count - half)
-}
-
-// The lesser of those from `first` on and of `best`, a column behind these; the former if they are equal. The promise is
-// of a question up to any end that is not before theirs.
-fn find_from(
-    row: &[u32; Network::ROW_PLACES],
-    held: &[u8; Network::INDEX_PLACES],
-    first: usize,
-    best: usize,
-    at: usize,
-    start: usize,
-    count: usize,
-) -> usize
-    requires sized { (1 ≤ count) × (start + count ≤ row_places) × (at + count ≤ row_places) }
-    requires some { (first < start + count) × (best < row_places) }
-    ensures { (b : ℕ) → start + count ≤ b → by result (lengths_in row.now result) ≡ lesser (ask count (lengths_in row.now) held.now first b at start count) (by best (lengths_in row.now best)) }
-{
-    if first <= start {
-        let c = held_column(held, at, start, count);
-        return lesser_column(row, c, best);
-    }
-    let half = count / 2;
-    let middle = start + half;
-    if middle <= first {
-        return find_from(row, held, first, best, at + half, middle, count - half);
-    }
-    let c = held_column(held, at + half, middle, count - half);
-    let next = lesser_column(row, c, best);
-    find_from(row, held, first, next, at + 1, start, half)
-}
-
-// The least of those up to `end`.
-fn find_start(
-    row: &[u32; Network::ROW_PLACES],
-    held: &[u8; Network::INDEX_PLACES],
-    end: usize,
-    at: usize,
-    start: usize,
-    count: usize,
-) -> usize
-    requires sized { (1 ≤ count) × (start + count ≤ row_places) × (at + count ≤ row_places) }
-    requires some { start < end }
-    ensures least { (a : ℕ) → a ≤ start → by result (lengths_in row.now result) ≡ ask count (lengths_in row.now) held.now a end at start count }
-    ensures inside { (start ≤ result) × (result < start + count) }
-{
-    if start + count <= end {
-        return held_column(held, at, start, count);
-    }
-    let half = count / 2;
-    let middle = start + half;
-    if end <= middle {
-        return find_start(row, held, end, at + 1, start, half);
-    }
-    let c = held_column(held, at + 1, start, half);
-    find_until(row, held, end, c, at + half, middle, count - half)
-}
-
-// The least of those from `first` up to `end`. Where both halves are asked for, what the second gives goes along as the best behind the first.
 // These functions call themselves as their last act only, so that the compiler can make loops of them.
-fn find(
-    row: &[u32; Network::ROW_PLACES],
-    held: &[u8; Network::INDEX_PLACES],
-    first: usize,
-    end: usize,
-    at: usize,
-    start: usize,
-    count: usize,
-) -> usize
-    requires sized { (1 ≤ count) × (start + count ≤ row_places) × (at + count ≤ row_places) }
-    requires some { (start < end) × (first < start + count) × (first < end) }
-    ensures least { by result (lengths_in row.now result) ≡ ask count (lengths_in row.now) held.now first end at start count }
-    ensures inside { (start ≤ result) × (result < start + count) }
-{
-    if covers(first, end, start, count) {
-        return held_column(held, at, start, count);
+impl Row<'_> {
+    // The column held for a stretch. A number that is no column of it counts as the first one.
+    #[tactic(auto, unfolding(definitions::specs::Index::held_in, definitions::specs::Index::in_stretch))]
+    fn held_column(self, at: usize, stretch: Stretch) -> usize
+        requires { at + stretch.count ≤ row_places }
+        ensures held { result ≡ held_in self.entry.held.now at stretch.start stretch.count }
+        ensures inside { (stretch.start ≤ result) × (result < stretch.start + stretch.count) }
+    {
+        if stretch.count < 2 {
+            return stretch.start;
+        }
+        let c = usize::from(self.held[at]);
+        if stretch.start <= c && c < stretch.end() {
+            c
+        } else {
+            stretch.start
+        }
     }
-    let half = count / 2;
-    let middle = start + half;
-    if end <= middle {
-        return find(row, held, first, end, at + 1, start, half);
+
+    // The lesser of `best`, a column before the stretch, and of those up to `end`; `best` if they are equal. The promise is of a question from any column up to
+    // the first. `find_from` mirrors it: the test, the half that is left and the order of the two columns all differ, so that one function would have to be given all three.
+    fn find_until(self, at: usize, stretch: Stretch, end: usize, best: usize) -> usize
+        requires placed { at + stretch.count ≤ row_places }
+        requires some { (stretch.start < end) × (best < row_places) }
+        ensures { (a : ℕ) → a ≤ stretch.start → column self.entry result ≡ lesser (column self.entry best) (asked self.entry a end at stretch) }
+    {
+        if stretch.end() <= end {
+            return lesser_column(self.lengths, best, self.held_column(at, stretch));
+        }
+        let first = stretch.first_half();
+        let second = stretch.second_half();
+        if end <= second.start {
+            return self.find_until(at + 1, first, end, best);
+        }
+        let c = self.held_column(at + 1, first);
+        let next = lesser_column(self.lengths, best, c);
+        self.find_until(at + first.count, second, end, next)
     }
-    if middle <= first {
-        return find(row, held, first, end, at + half, middle, count - half);
+
+    // The lesser of those from `begin` on and of `best`, a column behind the stretch; the former if they are equal. The promise is of a question up to any
+    // end that is not before that of the stretch.
+    fn find_from(self, at: usize, stretch: Stretch, begin: usize, best: usize) -> usize
+        requires placed { at + stretch.count ≤ row_places }
+        requires some { (begin < stretch.start + stretch.count) × (best < row_places) }
+        ensures { (b : ℕ) → stretch.start + stretch.count ≤ b → column self.entry result ≡ lesser (asked self.entry begin b at stretch) (column self.entry best) }
+    {
+        if begin <= stretch.start {
+            return lesser_column(self.lengths, self.held_column(at, stretch), best);
+        }
+        let first = stretch.first_half();
+        let second = stretch.second_half();
+        if second.start <= begin {
+            return self.find_from(at + first.count, second, begin, best);
+        }
+        let c = self.held_column(at + first.count, second);
+        let next = lesser_column(self.lengths, c, best);
+        self.find_from(at + 1, first, begin, next)
     }
-    let r = find_start(row, held, end, at + half, middle, count - half);
-    find_from(row, held, first, r, at + 1, start, half)
+
+    // The least of those up to `end`.
+    fn find_start(self, at: usize, stretch: Stretch, end: usize) -> usize
+        requires placed { at + stretch.count ≤ row_places }
+        requires some { stretch.start < end }
+        ensures least { (a : ℕ) → a ≤ stretch.start → column self.entry result ≡ asked self.entry a end at stretch }
+        ensures inside { (stretch.start ≤ result) × (result < stretch.start + stretch.count) }
+    {
+        if stretch.end() <= end {
+            return self.held_column(at, stretch);
+        }
+        let first = stretch.first_half();
+        let second = stretch.second_half();
+        if end <= second.start {
+            return self.find_start(at + 1, first, end);
+        }
+        self.find_until(
+            at + first.count,
+            second,
+            end,
+            self.held_column(at + 1, first),
+        )
+    }
+
+    // The least of those from `begin` up to `end`. Where both halves are asked for, what the second gives goes along as the best behind the first.
+    fn find(self, at: usize, stretch: Stretch, begin: usize, end: usize) -> usize
+        requires placed { at + stretch.count ≤ row_places }
+        requires some { (stretch.start < end) × (begin < stretch.start + stretch.count) × (begin < end) }
+        ensures least { column self.entry result ≡ asked self.entry begin end at stretch }
+        ensures inside { (stretch.start ≤ result) × (result < stretch.start + stretch.count) }
+    {
+        let behind = stretch.end();
+        if begin <= stretch.start && behind <= end {
+            return self.held_column(at, stretch);
+        }
+        let first = stretch.first_half();
+        let second = stretch.second_half();
+        if end <= second.start {
+            return self.find(at + 1, first, begin, end);
+        }
+        if second.start <= begin {
+            return self.find(at + first.count, second, begin, end);
+        }
+        let best = self.find_start(at + first.count, second, end);
+        self.find_from(at + 1, first, begin, best)
+    }
 }
 
 // The lowest column of least length from `first` up to `end`, of the `cols` columns from col0 on and counted from there. 0 where these leave the row, and for
 // a stretch that is empty or leaves them.
+// Plain numbers, since any are answered; a `Stretch` lies in its row.
 pub fn least_column(
     row: &[u32; Network::ROW_PLACES],
     held: &[u8; Network::INDEX_PLACES],
@@ -190,138 +159,126 @@ pub fn least_column(
 ) -> usize
     ensures { result ≡ least_column row.now held.now col0 cols first end }
 {
-    if cols > Network::ROW_PLACES {
+    if cols > Network::ROW_PLACES || col0 > Network::ROW_PLACES - cols {
         return 0;
     }
-    if col0 > Network::ROW_PLACES - cols {
+    if first >= end || end > cols {
         return 0;
     }
-    if first >= end {
-        return 0;
-    }
-    if end > cols {
-        return 0;
-    }
+    let row = Row { lengths: row, held };
+    let stretch = Stretch {
+        start: col0,
+        count: cols,
+    };
     if end - first == cols {
-        return held_column(held, col0, col0, cols) - col0;
+        return row.held_column(col0, stretch) - col0;
     }
-    find(row, held, col0 + first, col0 + end, col0, col0, cols) - col0
+    row.find(col0, stretch, col0 + first, col0 + end) - col0
 }
 
 // ---- building
-// A stretch of all rows is built before the next one, so that the places of its halves are worked out once for all rows.
+// A stretch of all rows is built before the next one, so that its halves are worked out once for all rows.
 
 // At most three columns, of one row: one place for two columns, two for three.
 fn fill_small(
-    held: &mut [u8],
+    held: &mut [u8; Network::INDEX_PLACES],
     row: &[u32; Network::ROW_PLACES],
     at: usize,
-    start: usize,
-    count: usize,
+    stretch: Stretch,
 )
-    requires { (count < 4) × (start + count ≤ row_places) × (at + count ≤ row_places) × (length held.old ≡ index_row_places) }
-    ensures { held.new ≡ filled_row held.old row.now at start count }
+    requires { (stretch.count < 4) × (at + stretch.count ≤ row_places) }
+    ensures { held.new ≡ filled_row held.old row.now at stretch.start stretch.count }
 {
-    if count == 3 {
+    let start = stretch.start;
+    if stretch.count == 3 {
         let x = lesser_column(row, start + 1, start + 2);
         held[at + 1] = x as u8;
         held[at] = lesser_column(row, start, x) as u8;
-        return;
-    }
-    if count == 2 {
+    } else if stretch.count == 2 {
         held[at] = lesser_column(row, start, start + 1) as u8;
     }
 }
 
 // The column held for one of the halves, where that is built.
-fn held_of(held: &[u8], at: usize, start: usize, count: usize) -> usize
-    requires { (at + count ≤ row_places) × (length held.now ≡ index_row_places) }
-    ensures { result ≡ held_of held.now at start count }
+#[tactic(auto, unfolding(crate::specs::HeldLaws::held_of))]
+// Without the test of `held_column`: what was just built is a column of its half.
+fn held_of(held: &[u8; Network::INDEX_PLACES], at: usize, stretch: Stretch) -> usize
+    requires { at + stretch.count ≤ row_places }
+    ensures { result ≡ held_of held.now at stretch.start stretch.count }
 {
-    if count < 2 {
-        return start;
+    if stretch.count < 2 {
+        return stretch.start;
     }
-    wide(held[at])
+    usize::from(held[at])
 }
 
 // The lesser of the columns held for the two halves, of one row.
 fn fill_cut(
-    held: &mut [u8],
+    held: &mut [u8; Network::INDEX_PLACES],
     row: &[u32; Network::ROW_PLACES],
     at: usize,
-    start: usize,
-    count: usize,
+    stretch: Stretch,
 )
-    requires sized { (2 ≤ count) × (start + count ≤ row_places) × (at + count ≤ row_places) × (length held.old ≡ index_row_places) }
-    requires halves { HalvesHeld held.old row.now at start count }
-    ensures { held.new ≡ cut_row at start count held.old row.now }
+    requires sized { (2 ≤ stretch.count) × (at + stretch.count ≤ row_places) }
+    requires halves { HalvesHeld held.old row.now at stretch.start stretch.count }
+    ensures { held.new ≡ cut_row at stretch.start stretch.count held.old row.now }
 {
-    let half = count / 2;
-    let middle = start + half;
-    let l = held_of(held, at + 1, start, half);
-    let x = held_of(held, at + half, middle, count - half);
-    held[at] = lesser_column(row, l, x) as u8;
+    let first = stretch.first_half();
+    let l = held_of(held, at + 1, first);
+    let r = held_of(held, at + first.count, stretch.second_half());
+    held[at] = lesser_column(row, l, r) as u8;
 }
 
-// At most three columns, of each row. That a row has its places is known where it is lent, and so it is promised here.
+// At most three columns, of each row.
+// In the functions of a stretch of all rows the index and the rows stay two parameters, since one of them is written.
 fn small_rows(
     index: &mut [[u8; Network::INDEX_PLACES]],
     rows: &[[u32; Network::ROW_PLACES]],
     at: usize,
-    start: usize,
-    count: usize,
+    stretch: Stretch,
 )
-    requires { (count < 4) × (start + count ≤ row_places) × (at + count ≤ row_places) × (length index.old ≡ length rows.now) }
-    ensures filled { index.new ≡ fill_rows index.old rows.now at start count }
-    ensures long { RowsLong index.old }
+    requires { (stretch.count < 4) × (at + stretch.count ≤ row_places) × (length index.old ≡ length rows.now) }
+    ensures { index.new ≡ fill_rows index.old rows.now at stretch.start stretch.count }
 {
-    let mut r = 0;
-    while r < rows.len() {
-        fill_small(&mut index[r], &rows[r], at, start, count);
-        r += 1;
+    for (r, row) in rows.iter().enumerate() {
+        fill_small(&mut index[r], row, at, stretch);
     }
 }
 
-// The lesser of the two halves, of each row.
+// The lesser of the two halves, of each row. One function over a closure that fills a row would have to be told what the closure does, and the loop is no longer than that.
 fn cut_rows(
     index: &mut [[u8; Network::INDEX_PLACES]],
     rows: &[[u32; Network::ROW_PLACES]],
     at: usize,
-    start: usize,
-    count: usize,
+    stretch: Stretch,
 )
-    requires sized { (2 ≤ count) × (start + count ≤ row_places) × (at + count ≤ row_places) × (length index.old ≡ length rows.now) }
-    requires halves { RowsHalved index.old rows.now at start count }
-    ensures { index.new ≡ cut_rows index.old rows.now at start count }
+    requires sized { (2 ≤ stretch.count) × (at + stretch.count ≤ row_places) × (length index.old ≡ length rows.now) }
+    requires halves { RowsHalved index.old rows.now at stretch.start stretch.count }
+    ensures { index.new ≡ cut_rows index.old rows.now at stretch.start stretch.count }
 {
-    let mut r = 0;
-    while r < rows.len() {
-        fill_cut(&mut index[r], &rows[r], at, start, count);
-        r += 1;
+    for (r, row) in rows.iter().enumerate() {
+        fill_cut(&mut index[r], row, at, stretch);
     }
 }
 
-// The index of `count` columns from `start` on, of each row, from place `at` on: both halves, then what the whole holds.
+// The index of a stretch, of each row: both halves, then what the whole holds.
 fn build_stretch(
     index: &mut [[u8; Network::INDEX_PLACES]],
     rows: &[[u32; Network::ROW_PLACES]],
     at: usize,
-    start: usize,
-    count: usize,
+    stretch: Stretch,
 )
-    requires { (start + count ≤ row_places) × (at + count ≤ row_places) × (length index.old ≡ length rows.now) }
-    ensures filled { index.new ≡ fill_rows index.old rows.now at start count }
-    ensures long { RowsLong index.old }
+    requires { (at + stretch.count ≤ row_places) × (length index.old ≡ length rows.now) }
+    ensures { index.new ≡ fill_rows index.old rows.now at stretch.start stretch.count }
 {
-    if count < 4 {
-        small_rows(index, rows, at, start, count);
+    if stretch.count < 4 {
+        small_rows(index, rows, at, stretch);
         return;
     }
-    let half = count / 2;
-    let middle = start + half;
-    build_stretch(index, rows, at + 1, start, half);
-    build_stretch(index, rows, at + half, middle, count - half);
-    cut_rows(index, rows, at, start, count);
+    let first = stretch.first_half();
+    build_stretch(index, rows, at + 1, first);
+    build_stretch(index, rows, at + first.count, stretch.second_half());
+    cut_rows(index, rows, at, stretch);
 }
 
 // The index of the `cols` columns from col0 on, of each row; the rest of the index stays. One of another number of rows, and columns that leave the row,
@@ -334,14 +291,15 @@ pub fn fill_index(
 )
     ensures { index.new ≡ filled_index index.old rows.now col0 cols }
 {
-    if index.len() != rows.len() {
-        return;
-    }
-    if cols > Network::ROW_PLACES {
+    if index.len() != rows.len() || cols == 0 || cols > Network::ROW_PLACES {
         return;
     }
     if col0 > Network::ROW_PLACES - cols {
         return;
     }
-    build_stretch(index, rows, col0, col0, cols);
+    let stretch = Stretch {
+        start: col0,
+        count: cols,
+    };
+    build_stretch(index, rows, col0, stretch);
 }

@@ -14,10 +14,10 @@ ghost use Rattle.preparation.specs.Prepared.{firsts_of, sizes_of, vertices_of, t
 ghost use Rattle.preparation.specs.BlockIndex.{filled_block, filled_up_to, filled_blocks};
 
 use bounds::{Network, Session};
-use buffers::fill;
 use splits::Split;
 
 // The words of an interval heap: those before its intervals, those of each interval, and the marks of the columns.
+// All heaps stand in one array (`heap_words`): blocks differ in their number of columns, and nothing is allocated.
 #[derive(Drop)]
 pub struct HeapWords;
 
@@ -48,7 +48,8 @@ impl HeapWords {
     pub const PLACE: usize = HeapWords::MARK + 1;
 }
 
-// How many places the arrays below have, and where each table begins in the one array of tables.
+// How many places the arrays below have, and where each table begins in the one array of tables. It stays one array, since `fill_tables` promises what an
+// array of any size becomes (`filled_tables`).
 #[derive(Drop)]
 pub struct Prepared;
 
@@ -106,33 +107,30 @@ impl Prepared {
 // ---- pieces
 
 // The size of piece d.
+#[tactic(auto, unfolding(crate::specs::Prepared::size_at))]
 fn size_at(p: u32, sizes: &[u32], d: usize) -> u32
     ensures { (result ≡ size_at p sizes.now d) × (result ≤ max_size) }
 {
-    if d >= p as usize {
-        return 0;
+    let size = sizes.get(d).copied().unwrap_or(0);
+    if d < p as usize && size <= Network::MAX_SIZE {
+        size
+    } else {
+        0
     }
-    if d >= sizes.len() {
-        return 0;
-    }
-    if sizes[d] > Network::MAX_SIZE {
-        return 0;
-    }
-    sizes[d]
 }
 
 // ---- the matrix
 
-// Row r of the lent lengths, backwards.
-fn fill_row(row: &mut [u32], lengths: &[u32], r: usize)
-    requires { (length row.old ≡ row_places) × (length lengths.now ≡ length_places) × (r < vertex_places) }
+// Row r of the lent lengths, backwards. A row of its own is between the two: it is apart from both, so that four places are moved at a time.
+fn fill_row(row: &mut [u32; Network::ROW_PLACES], lengths: &[u32], r: usize)
+    requires { (length lengths.now ≡ length_places) × (r < vertex_places) }
     ensures { row.new ≡ matrix_row lengths.now r }
 {
     let from = Network::ROW_PLACES * r;
-    let mut k = 0;
-    while k < Network::ROW_PLACES {
-        row[k] = lengths[from + (Network::ROW_PLACES - 1 - k)];
-        k += 1;
+    let mut line = [0u32; Network::ROW_PLACES];
+    line.copy_from_slice(&lengths[from..from + Network::ROW_PLACES]);
+    for (k, place) in row.iter_mut().enumerate() {
+        *place = line[Network::ROW_PLACES - 1 - k];
     }
 }
 
@@ -141,42 +139,32 @@ fn fill_rows(matrix: &mut [[u32; Network::ROW_PLACES]], lengths: &[u32])
     requires { (length matrix.old ≡ vertex_places) × (length lengths.now ≡ length_places) }
     ensures { matrix.new ≡ matrix_of lengths.now }
 {
-    let mut r = 0;
-    while r < Network::VERTEX_PLACES {
+    for r in 0..Network::VERTEX_PLACES {
         fill_row(&mut matrix[r], lengths, r);
-        r += 1;
     }
 }
 
 // The tables of all pieces, one below the other, each with its columns reversed: every block is a window of this matrix. Rows are copied
 // whole; no block has the places that its piece does not use. A matrix or lengths of another size leave the matrix as it is.
+#[tactic(auto, unfolding(crate::specs::Prepared::filled_matrix))]
 pub fn fill_matrix(matrix: &mut [[u32; Network::ROW_PLACES]], lengths: &[u32])
     ensures { matrix.new ≡ filled_matrix matrix.old lengths.now }
 {
-    if matrix.len() != Network::VERTEX_PLACES {
-        return;
+    if matrix.len() == Network::VERTEX_PLACES && lengths.len() == Network::LENGTH_PLACES {
+        fill_rows(matrix, lengths);
     }
-    if lengths.len() != Network::LENGTH_PLACES {
-        return;
-    }
-    fill_rows(matrix, lengths);
 }
 
 // ---- the places of the vertices
 
 // Place x of all pieces comes before the places that its vertex has so far.
+#[tactic(auto, unfolding(crate::specs::Prepared::store_place, definitions::specs::Lists::within))]
 fn store_place(places: &mut [u32], vertices: &[u32], x: usize)
     requires { (length places.old ≡ place_count) × (x < vertex_places) }
     ensures { places.new ≡ store_place x (get_or vertices.now x 0) places.old }
 {
-    if x >= vertices.len() {
-        return;
-    }
-    let v = vertices[x];
-    if v < 1 {
-        return;
-    }
-    if v > Network::MAX_VERTICES {
+    let v = vertices.get(x).copied().unwrap_or(0);
+    if v < 1 || v > Network::MAX_VERTICES {
         return;
     }
     let first = places[v as usize - 1];
@@ -189,14 +177,8 @@ fn store_places(places: &mut [u32], vertices: &[u32], d: usize, m: u32)
     requires { (length places.old ≡ place_count) × (d < size_places) × (m ≤ max_size) }
     ensures { places.new ≡ store_places vertices.now d m places.old m }
 {
-    let mut k = 0;
-    while k < m as usize {
-        store_place(
-            places,
-            vertices,
-            Network::ROW_PLACES * d + (m as usize - 1 - k),
-        );
-        k += 1;
+    for k in (0..m as usize).rev() {
+        store_place(places, vertices, Network::ROW_PLACES * d + k);
     }
 }
 
@@ -206,11 +188,8 @@ fn fill_places(places: &mut [u32], p: u32, sizes: &[u32], vertices: &[u32])
     requires { places.old ≡ replicate place_count 0 }
     ensures { places.new ≡ places_of p sizes.now vertices.now }
 {
-    let mut k = 0;
-    while k < Network::SIZE_PLACES {
-        let d = Network::SIZE_PLACES - 1 - k;
+    for d in (0..Network::SIZE_PLACES).rev() {
         store_places(places, vertices, d, size_at(p, sizes, d));
-        k += 1;
     }
 }
 
@@ -222,11 +201,9 @@ fn fill_firsts(firsts: &mut [u32], p: u32, sizes: &[u32])
     ensures { firsts.new ≡ firsts_of p sizes.now }
 {
     let mut b = 0;
-    let mut d = 0;
-    while d < Network::SIZE_PLACES {
-        firsts[d] = b;
+    for (d, first) in firsts.iter_mut().enumerate() {
+        *first = b;
         b += block_count(size_at(p, sizes, d));
-        d += 1;
     }
 }
 
@@ -235,36 +212,38 @@ fn block_count(m: u32) -> u32
     requires { m ≤ max_size }
     ensures { result ≡ 2 * pred m }
 {
-    if m < 1 {
-        return 0;
-    }
-    2 * (m - 1)
+    2 * m.saturating_sub(1)
 }
 
-// The numbers of block b, of piece d, whose heap begins at the word `slot`. Returns the word after that heap.
-fn store_part(
-    parts: &mut [u32],
-    b: usize,
-    slot: u32,
+// A block of piece d: its rows and its columns among the places of the piece.
+#[derive(Clone, Copy)]
+struct Part {
     d: usize,
     row0: usize,
+    rows: usize,
     col0: usize,
     cols: usize,
-    rows: usize,
-) -> u32
-    requires { (part_numbers * b + part_numbers ≤ length parts.old) × (slot ≤ max_words + piece_blocks * split_words) × (d < size_places) × (row0 < row_places) × (1 ≤ cols) × (col0 + cols ≤ row_places) × (rows ≤ row_places) }
-    ensures stored { parts.new ≡ sets parts.old (part_numbers * b) (slot ∷ (row_places * d + row0) ∷ (row_places - (col0 + cols)) ∷ cols ∷ (row_places * d + (col0 + cols - 1)) ∷ rows ∷ []) }
-    ensures next { result ≡ slot + heap_words cols }
+    ghost piece: { d < size_places },
+    ghost tall: { (row0 < row_places) × (rows ≤ row_places) },
+    ghost wide: { (1 ≤ cols) × (col0 + cols ≤ row_places) },
+}
+
+// The numbers of block b, whose heap begins at the word `slot`. Returns the word after that heap.
+fn store_part(parts: &mut [u32], b: usize, slot: u32, part: Part) -> u32
+    requires { (part_numbers * b + part_numbers ≤ length parts.old) × (slot ≤ max_words + piece_blocks * split_words) }
+    ensures stored { parts.new ≡ sets parts.old (part_numbers * b) (slot ∷ (row_places * part.d + part.row0) ∷ (row_places - (part.col0 + part.cols)) ∷ part.cols ∷ (row_places * part.d + (part.col0 + part.cols - 1)) ∷ part.rows ∷ []) }
+    ensures next { result ≡ slot + heap_words part.cols }
 {
     let at = Prepared::PART * b;
-    let end = col0 + cols;
+    let top = Network::ROW_PLACES * part.d;
+    let end = part.col0 + part.cols;
     parts[at] = slot;
-    parts[at + Prepared::TOP] = (Network::ROW_PLACES * d + row0) as u32;
+    parts[at + Prepared::TOP] = (top + part.row0) as u32;
     parts[at + Prepared::COL0] = (Network::ROW_PLACES - end) as u32;
-    parts[at + Prepared::COLS] = cols as u32;
-    parts[at + Prepared::LAST] = (Network::ROW_PLACES * d + (end - 1)) as u32;
-    parts[at + Prepared::ROWS] = rows as u32;
-    slot + (HeapWords::HEAD + HeapWords::PLACE * cols) as u32
+    parts[at + Prepared::COLS] = part.cols as u32;
+    parts[at + Prepared::LAST] = (top + (end - 1)) as u32;
+    parts[at + Prepared::ROWS] = part.rows as u32;
+    slot + (HeapWords::HEAD + HeapWords::PLACE * part.cols) as u32
 }
 
 // The numbers of blocks b and b + 1, which a split gives.
@@ -272,26 +251,22 @@ fn store_split(parts: &mut [u32], b: usize, slot: u32, d: usize, c: Split) -> u3
     requires { (part_numbers * (b + 2) ≤ length parts.old) × (slot ≤ max_words + max_size * split_words) × (d < size_places) × (c.first < c.middle) × (c.middle < c.end) × (c.end ≤ row_places) }
     ensures { Stored parts.old parts.new b slot result (split_placements d (split_of c)) }
 {
-    let next = store_part(
-        parts,
-        b,
-        slot,
+    let below = Part {
         d,
-        c.first,
-        c.middle,
-        c.end - c.middle,
-        c.middle - c.first,
-    );
-    store_part(
-        parts,
-        b + 1,
-        next,
+        row0: c.first,
+        rows: c.middle - c.first,
+        col0: c.middle,
+        cols: c.end - c.middle,
+    };
+    let above = Part {
         d,
-        c.middle,
-        c.first,
-        c.middle - c.first,
-        c.end - c.middle,
-    )
+        row0: c.middle,
+        rows: c.end - c.middle,
+        col0: c.first,
+        cols: c.middle - c.first,
+    };
+    let next = store_part(parts, b, slot, below);
+    store_part(parts, b + 1, next, above)
 }
 
 // The numbers of the blocks of piece d, of size m, from block b on.
@@ -301,11 +276,9 @@ fn store_piece(parts: &mut [u32], splits: &[u8], b: usize, slot: u32, d: usize, 
 {
     let begin = splits::first_split(m);
     let mut next = slot;
-    let mut s = 0;
-    while s + 1 < m {
+    for s in 0..m.saturating_sub(1) {
         let c = splits::split_in(splits, begin + s);
         next = store_split(parts, b + 2 * s, next, d, c);
-        s += 1;
     }
     next
 }
@@ -320,12 +293,10 @@ fn fill_parts(parts: &mut [u32], p: u32, sizes: &[u32])
     let splits = splits::table();
     let mut slot = 0;
     let mut b = 0;
-    let mut d = 0;
-    while d < Network::SIZE_PLACES {
+    for d in 0..Network::SIZE_PLACES {
         let m = size_at(p, sizes, d);
         slot = store_piece(parts, &splits, b, slot, d, m as usize);
         b += block_count(m) as usize;
-        d += 1;
     }
 }
 
@@ -336,32 +307,19 @@ fn fill_sizes(out: &mut [u32], p: u32, sizes: &[u32])
     requires { length out.old ≡ size_places }
     ensures { out.new ≡ sizes_of p sizes.now }
 {
-    let mut d = 0;
-    while d < Network::SIZE_PLACES {
-        out[d] = size_at(p, sizes, d);
-        d += 1;
+    for (d, size) in out.iter_mut().enumerate() {
+        *size = size_at(p, sizes, d);
     }
 }
 
-// The number at a place, 0 past the end.
-fn word_at(words: &[u32], i: usize) -> u32
-    ensures { result ≡ get_or words.now i 0 }
-{
-    if i >= words.len() {
-        return 0;
-    }
-    words[i]
-}
-
-// The vertices of all places.
+// The vertices of all places; 0 past the end of the lent ones.
+// One by one, since past the end of what is lent stands 0.
 fn fill_vertices(out: &mut [u32], vertices: &[u32])
     requires { length out.old ≡ vertex_places }
     ensures { out.new ≡ vertices_of vertices.now }
 {
-    let mut i = 0;
-    while i < Network::VERTEX_PLACES {
-        out[i] = word_at(vertices, i);
-        i += 1;
+    for (i, vertex) in out.iter_mut().enumerate() {
+        *vertex = vertices.get(i).copied().unwrap_or(0);
     }
 }
 
@@ -397,15 +355,15 @@ fn store_tables(tables: &mut [u32], p: u32, sizes: &[u32], vertices: &[u32])
 
 // What the loop reads beside the matrix, in one array that is cleared first, each table behind those before it: the numbers of the blocks, the places of the
 // vertices, linked, the first blocks and the sizes of the pieces, and the vertices of all pieces. An array of another
-// size is left as it is.
+// size is left as it is. These parts of a network stay apart: their struct, `LentNetwork`, has two more, and is of a crate that nothing else is needed from.
+#[tactic(auto, unfolding(crate::specs::Prepared::filled_tables))]
 pub fn fill_tables(tables: &mut [u32], p: u32, sizes: &[u32], vertices: &[u32])
     ensures { tables.new ≡ filled_tables tables.old p sizes.now vertices.now }
 {
-    if tables.len() != Prepared::TABLES {
-        return;
+    if tables.len() == Prepared::TABLES {
+        tables.fill(0);
+        store_tables(tables, p, sizes, vertices);
     }
-    fill(tables, 0);
-    store_tables(tables, p, sizes, vertices);
 }
 
 // ---- the index of the blocks
@@ -427,10 +385,7 @@ fn fill_block(
     }
     let top = tables[at + Prepared::TOP] as usize;
     let bottom = top + tables[at + Prepared::ROWS] as usize;
-    if bottom > index.len() {
-        return;
-    }
-    if bottom > matrix.len() {
+    if bottom > index.len() || bottom > matrix.len() {
         return;
     }
     let col0 = tables[at + Prepared::COL0] as usize;
@@ -446,15 +401,14 @@ fn fill_blocks(
     requires { length tables.now ≡ table_count }
     ensures { index.new ≡ filled_up_to matrix.now tables.now index.old max_blocks }
 {
-    let mut b = 0;
-    while b < Prepared::BLOCKS {
+    for b in 0..Prepared::BLOCKS {
         fill_block(index, matrix, tables, b);
-        b += 1;
     }
 }
 
 // The index of the rows of all blocks, from the numbers of the blocks in the tables; the rest of the index stays. No two blocks have a row and a column in common, so
 // that each keeps its places. Arrays of another size leave the index as it is.
+#[tactic(auto, unfolding(crate::specs::BlockIndex::filled_blocks))]
 pub fn fill_index(
     index: &mut [[u8; Network::INDEX_PLACES]],
     matrix: &[[u32; Network::ROW_PLACES]],
@@ -462,14 +416,10 @@ pub fn fill_index(
 )
     ensures { index.new ≡ filled_blocks index.old matrix.now tables.now }
 {
-    if index.len() != Network::VERTEX_PLACES {
-        return;
+    if index.len() == Network::VERTEX_PLACES
+        && matrix.len() == Network::VERTEX_PLACES
+        && tables.len() == Prepared::TABLES
+    {
+        fill_blocks(index, matrix, tables);
     }
-    if matrix.len() != Network::VERTEX_PLACES {
-        return;
-    }
-    if tables.len() != Prepared::TABLES {
-        return;
-    }
-    fill_blocks(index, matrix, tables);
 }

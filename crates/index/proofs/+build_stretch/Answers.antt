@@ -1,22 +1,20 @@
 -- `build_stretch` calls itself on both halves, then fills the place of the whole; the number of columns falls.
-use native.Mathlib.Omega.{arith}
-use borrow.Author.Rules.{rules}
+use Rattle.std.proofs.Common.{arith}
 use Rattle.index.specs.HeldLaws.{rows_halved, rows_cut}
 use Rattle.index.proofs.+build_stretch.Goals as goal
 
-pub returns-then-count-lt4 : goal.returns-then-count-lt4
-returns-then-count-lt4 t c = record { filled = c.small_rows.ensures.filled; long = c.small_rows.ensures.long }
-
-pub cut_rows-requires : goal.cut_rows-requires
-cut_rows-requires t c =
+pub cut_rows-requires-clause-halves : goal.cut_rows-requires-clause-halves
+cut_rows-requires-clause-halves t c =
     let a = c.args in
-    let first = c.build_stretch.ensures in
-    let second = c.build_stretch-2.ensures in record { sized = (search rules, search rules, search rules, search rules); halves = rows_halved a.index.now a.rows.now a.at a.start a.count (omega arith) first.long (omega arith) (omega arith) _ _ first.filled second.filled }
+    let s = a.stretch in
+    let e = c.first_half-first.ensures in
+    let f = c.second_half.ensures in
+    rows_halved a.index.now a.rows.now a.at s.start s.count (omega arith) c.told-index (omega arith) (omega arith) _ _ (rw (e.start, e.count) at c.build_stretch.ensures) (rw (e.count, f.start, f.count) at c.build_stretch-2.ensures)
 
 pub returns : goal.returns
 returns t c =
     let a = c.args in
-    let first = c.build_stretch.ensures in
-    let second = c.build_stretch-2.ensures in
-    let whole = c.cut_rows.ensures in
-    record { filled = rows_cut a.index.now a.rows.now a.at a.start a.count (omega arith) first.long (omega arith) (omega arith) _ _ first.filled second.filled _ whole; long = first.long }
+    let s = a.stretch in
+    let e = c.first_half-first.ensures in
+    let f = c.second_half.ensures in
+    rows_cut a.index.now a.rows.now a.at s.start s.count (omega arith) c.told-index (omega arith) (omega arith) _ _ (rw (e.start, e.count) at c.build_stretch.ensures) (rw (e.count, f.start, f.count) at c.build_stretch-2.ensures) _ c.cut_rows.ensures

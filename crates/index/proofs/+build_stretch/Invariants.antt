@@ -2,4 +2,4 @@
 use Rattle.index.proofs.+build_stretch.Given as goal
 
 abbrev pub decreases-build_stretch : goal.decreases-build_stretch
-decreases-build_stretch l = l.count
+decreases-build_stretch l = l.stretch.count

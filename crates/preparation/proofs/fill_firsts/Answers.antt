@@ -11,22 +11,20 @@ use Rattle.preparation.proofs.fill_firsts.Goals as goal
 
 pub loop-d-init : goal.loop-d-init
 unfolding blocks_up_to
-loop-d-init c = (search rules, refl, search rules, filled_none _ _, search rules, search rules)
+loop-d-init c = record { blocks = refl; few = search rules; filled = filled_none _ _ }
 
 pub loop-d-preserved : goal.loop-d-preserved
 loop-d-preserved c =
     let l = c.loop-d in
-    let size = c.size_at.ensures in (
-      search rules,
-      blocks_next _ _ _ _ _ _ size.0 c.block_count-b.ensures l.invariant.1,
-      omega (arith, size.1, c.block_count-b.ensures),
-      rw (l.invariant.3, l.invariant.1) (filled_more _ l.d _ (omega arith)),
-      l.invariant.4,
-      search rules,
-    )
+    let size = c.size_at.ensures in
+    record {
+      blocks = blocks_next _ _ _ _ _ _ size.0 c.block_count-b.ensures l.invariant.blocks;
+      few = omega (arith, size.1, c.block_count-b.ensures);
+      filled = rw (l.invariant.filled, l.invariant.blocks) (filled_more _ l.d _ (omega arith));
+    }
 
 pub returns : goal.returns
 unfolding firsts_of
 returns c =
     let l = c.loop-d in
-    rw l.invariant.3 (filled_all _ max_pieces l.d _ (omega arith) l.invariant.4)
+    rw l.invariant.filled (filled_all _ max_pieces l.d _ (omega arith) (omega arith))

@@ -1,5 +1,5 @@
 -- `fill_parts`: after d turns the blocks of the first d pieces are stored. The blocks and words that a piece has at most keep the numbers small.
-use mathlib.Core.Path.{◌≡◌, refl, sym, ap, ◌∙◌}
+use mathlib.Core.Path.{◌≡◌, refl, ap, ◌∙◌}
 use mathlib.Core.List.{List}
 use Prim.Native.Nat.{ℕ, ◌+◌, ◌≤◌}
 use native.Mathlib.Numerals.{add-one}
@@ -32,27 +32,24 @@ pub loop-d-init : goal.loop-d-init
 unfolding blocks_up_to placements_up_to
 loop-d-init c =
     let fresh = c.requires in
-    (search rules, ap length fresh ∙ length-replicate {A = ℕ} part_places 0, search rules, refl, search rules, search rules, stored_none _ _ _)
+    record { sized = ap length fresh ∙ length-replicate {A = ℕ} part_places 0; splits = search rules; blocks = refl; few = search rules; short = search rules; stored = stored_none _ _ _ }
 
 pub loop-d-preserved : goal.loop-d-preserved
 loop-d-preserved c =
     let l = c.loop-d in
     let a = c.args in
     let size = c.size_at-m.ensures in
-    let stored = c.store_piece-slot.ensures in (
-      search rules,
-      search rules,
-      search rules,
-      blocks_next a.p a.sizes.now _ _ _ _ size.0 c.block_count.ensures l.invariant.3,
-      omega (arith, size.1, c.block_count.ensures),
-      omega (arith, stored.end, piece_words_lem l.d _ size.1),
-      piece_more a.p a.sizes.now _ _ _ _ _ _ _ _ size.0 l.invariant.3 l.invariant.6 stored,
-    )
-
-pub shape_of-parts : goal.shape_of-parts
-shape_of-parts c = c.loop-d.invariant.1 ∙ sym (ap length c.requires ∙ length-replicate {A = ℕ} part_places 0)
+    let stored = c.store_piece-slot.ensures in
+    record {
+      sized = search rules;
+      splits = search rules;
+      blocks = blocks_next a.p a.sizes.now _ _ _ _ size.0 c.block_count.ensures l.invariant.blocks;
+      few = omega (arith, size.1, c.block_count.ensures);
+      short = omega (arith, stored.end, piece_words_lem l.d _ size.1);
+      stored = piece_more a.p a.sizes.now _ _ _ _ _ _ _ _ size.0 l.invariant.blocks l.invariant.stored stored;
+    }
 
 pub returns : goal.returns
 returns c =
     let e : c.loop-d.d ≡ max_pieces = omega arith in
-    whole c.args.p c.args.sizes.now _ _ c.loop-d.d e (rw c.requires at c.loop-d.invariant.6)
+    whole c.args.p c.args.sizes.now _ _ c.loop-d.d e (rw c.requires at c.loop-d.invariant.stored)

@@ -1,13 +1,11 @@
--- `fill_places`: after k turns the last k pieces are stored.
-use mathlib.Core.Path.{◌≡◌}
-use Prim.Native.Nat.{◌≤◌, ◌-◌}
-use lib.ListN.{length}
+-- `fill_places`: when piece d is next, those from d on are stored.
+use Rattle.std.proofs.Common.{◌≡◌, ◌-◌, length}
 use Rattle.definitions.specs.Limits.{max_pieces}
 use Rattle.preparation.specs.Prepared.{place_count, places_from}
 use Rattle.preparation.proofs.fill_places.Given as goal
 
-abbrev pub invariant-loop-k : goal.invariant-loop-k
-invariant-loop-k l = (l.k ≤ max_pieces) × (length l.places ≡ place_count) × (l.places ≡ places_from l.p l.sizes l.vertices l.k)
-
-abbrev pub decreases-loop-k : goal.decreases-loop-k
-decreases-loop-k l = max_pieces - l.k
+abbrev pub invariant-loop-d : goal.invariant-loop-d
+invariant-loop-d l = record {
+  sized : length l.places ≡ place_count;
+  stored : l.places ≡ places_from l.p l.sizes l.vertices (max_pieces - l.d);
+}

@@ -4,7 +4,7 @@ use mathlib.Core.List.{List, [], ◌∷◌}
 use Prim.Native.Nat.{ℕ, suc, ◌+◌, ◌-◌, ◌*◌}
 use native.Mathlib.Omega.{arith}
 use borrow.Author.Rules.{rules}
-use lib.ListN.{set, length-set}
+use lib.ListN.{set}
 use lib.Seq.{sets}
 use Rattle.definitions.specs.Limits.{row_places}
 use Rattle.preparation.specs.Prepared.{part_numbers}
@@ -20,22 +20,8 @@ six l i x₀ x₁ x₂ x₃ x₄ x₅ =
     let e₅ : i + 5 ≡ suc (suc (suc (suc (suc i)))) = omega arith in
     rw (e₁, e₂, e₃, e₄, e₅)
 
-pub bounds-parts-at-2 : goal.bounds-parts-at-2
-bounds-parts-at-2 c = simp length-set (omega arith)
-
-pub bounds-parts-at-3 : goal.bounds-parts-at-3
-bounds-parts-at-3 c = simp length-set (omega arith)
-
-pub bounds-parts-at-4 : goal.bounds-parts-at-4
-bounds-parts-at-4 c = simp length-set (omega arith)
-
-pub bounds-parts-at-5 : goal.bounds-parts-at-5
-bounds-parts-at-5 c = simp length-set (omega arith)
-
-pub bounds-parts-at-6 : goal.bounds-parts-at-6
-bounds-parts-at-6 c = simp length-set (omega arith)
-
 pub returns : goal.returns
 returns c =
     let a = c.args in
-    record { stored = six a.parts.now (part_numbers * a.b) a.slot (row_places * a.d + a.row0) (row_places - (a.col0 + a.cols)) a.cols (row_places * a.d + (a.col0 + a.cols - 1)) a.rows; next = search rules }
+    let x = a.part in
+    record { stored = six a.parts.now (part_numbers * a.b) a.slot (row_places * x.d + x.row0) (row_places - (x.col0 + x.cols)) x.cols (row_places * x.d + (x.col0 + x.cols - 1)) x.rows; next = search rules }

@@ -31,7 +31,7 @@ module _ (m : ℕ) (small : m ≤ max_size) (list : List ℕ) (begin s : ℕ) (c
 
 pub loop-s-init : goal.loop-s-init
 unfolding windows
-loop-s-init c = (search rules, search rules, search rules, stored_none _ _ _)
+loop-s-init c = record { sized = search rules; short = search rules; stored = stored_none _ _ _ }
 
 pub overflow_add-begin : goal.overflow_add-begin
 overflow_add-begin c = omega (arith, c.first_split-begin.ensures, first_small c.args.m c.requires.4)
@@ -48,14 +48,14 @@ loop-s-preserved c =
     let first = c.first_split-begin.ensures in
     let read = c.split_in-c.ensures in
     let end = c.store_split-next.ensures.end in
-    let few = split_words_lem c.args.m c.requires.4 c.args.d _ (cut_here c.args.m c.requires.4 c.args.splits.now _ l.s _ (omega arith) c.requires.0 first read) in (
-      omega arith,
-      search rules,
-      omega (arith, end, few),
-      split_more c.args.m c.requires.4 c.args.splits.now _ l.s _ (omega arith) c.requires.0 first read c.args.parts.now l.parts _ c.args.b c.args.slot l.next _ c.args.d l.invariant.3 c.store_split-next.ensures,
-    )
+    let few = split_words_lem c.args.m c.requires.4 c.args.d _ (cut_here c.args.m c.requires.4 c.args.splits.now _ l.s _ (omega arith) c.requires.0 first read) in
+    record {
+      sized = search rules;
+      short = omega (arith, end, few);
+      stored = split_more c.args.m c.requires.4 c.args.splits.now _ l.s _ (omega arith) c.requires.0 first read c.args.parts.now l.parts _ c.args.b c.args.slot l.next _ c.args.d l.invariant.stored c.store_split-next.ensures;
+    }
 
 pub returns : goal.returns
 returns c =
     let l = c.loop-s in
-    rw (placements_all c.args.m c.requires.4 c.args.d l.s (omega (arith, sub-one c.args.m))) at l.invariant.3
+    rw (placements_all c.args.m c.requires.4 c.args.d l.s (omega (arith, sub-one c.args.m))) at l.invariant.stored
