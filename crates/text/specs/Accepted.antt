@@ -13,7 +13,7 @@ use Rattle.definitions.specs.Judgement.{judge_bounds, judge_size, judge_vertices
 use Rattle.definitions.specs.Reading.{judge_asked, Plan}
 use Rattle.definitions.specs.Text.{sizes_of, vertices_of, lengths_of}
 use Rattle.definitions.specs.Entries.{held_target}
-use Rattle.definitions.proofs.Laws.Causes.{no_cause, size_in_lem, bounds_in, target_in_lem}
+use Rattle.definitions.proofs.Laws.CauseLaws.{no_cause, size_in_lem, bounds_in, target_in_lem}
 use Rattle.definitions.specs.Written.{SoundPiece, SoundPlan}
 use Rattle.text.specs.PieceReading.{Shaped}
 use Rattle.text.specs.Back.{size_back, piece_back}

@@ -1,14 +1,16 @@
--- What the parts of the text reader promise: the number that they return, and what they leave, against what the definition reads.
-use Rattle.std.specs.Prelude.{◌≡◌, ◌≢◌, ℕ, ◌+◌, ◌*◌, ◌≤◌, length}
+-- What the parts of the text reader promise: the value or the cause that they answer, and what they leave, against what the definition reads.
+use Rattle.std.specs.Prelude.{◌≡◌, ℕ, ◌+◌, ◌*◌, ◌≤◌, length, Result, Ok, Err}
 use mathlib.Core.List.{List, flat_map}
+use Rattle.definitions.specs.declared.Cause.{Cause}
+use Rattle.definitions.specs.Causes.{number_of}
 use Rattle.definitions.specs.Limits.{row_places, table_places}
 use Rattle.definitions.specs.Lists.{padded, Every}
 use Rattle.definitions.specs.Reading.{Read, refused, value, line_bytes}
 
--- 0, and a value was read that what is left shows; or the number of the refusal
-pub record Came {A : Type 0} (read : Read A) (number : ℕ) (Shows : A → Type 0) : Type 0 where
-  pub done : number ≡ 0 → (a : A) × (read ≡ value a) × Shows a
-  pub stopped : number ≢ 0 → read ≡ refused number
+-- a value was read, which the answer and what is left show; or the cause that turned the text away
+abbrev pub Came : {A B : Type 0} → Read A → Result B Cause → (B → A → Type 0) → Type 0
+Came {A} read (Ok b) Shows = (a : A) × (read ≡ value a) × Shows b a
+Came read (Err cause) Shows = read ≡ refused (number_of cause)
 
 -- a table of m rows of m lengths, read from a place of the text on
 pub record RowsLeft (text : List ℕ) (at m : ℕ) (table : List ℕ) (rows : List (List ℕ)) : Type 0 where

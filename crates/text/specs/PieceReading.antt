@@ -7,7 +7,7 @@
 --   SizedLeft sized-..   what a piece leaves behind its size
 --   PieceLeft ReadPieceLeaves piece-..   what one piece leaves
 --   PiecesGoing pieces_begun pieces_turn pieces_broken   the loop over the pieces
-use Rattle.std.specs.Prelude.{◌≡◌, refl, ◌≢◌, take, drop, set, replicate}
+use Rattle.std.specs.Prelude.{◌≡◌, refl, ⊤, Result, Ok, Err, take, drop, set, replicate}
 use Rattle.std.proofs.Math.Path.{sym, ap}
 use Rattle.std.proofs.Common.{◌∙◌, mul-le-mul, arith, drop_at, le-leb}
 use mathlib.Core.List.{List, [], ◌∷◌, ◌++◌, map, map-append, flat_map, append-nil}
@@ -15,6 +15,8 @@ use Prim.Native.Nat.{ℕ, zero, suc, ◌+◌, ◌-◌, ◌*◌, ◌≤◌, ◌<�
 use Rattle.std.proofs.Math.ListN.{length, length-append, length-map}
 use Rattle.basics.specs.Buffers.{flat_map_snoc, put, put_padded, set_padded}
 use Rattle.basics.specs.ListLaws.{every_snoc, length_padded, total_append}
+use Rattle.definitions.specs.declared.Cause.{Cause}
+use Rattle.definitions.specs.Causes.{number_of, verdict}
 use Rattle.definitions.specs.Limits.{max_size, size_places, vertex_places, length_places, row_places, table_places}
 use Rattle.definitions.specs.Lists.{padded, total, within, Every}
 use Rattle.definitions.specs.Network.{Piece, size_of}
@@ -23,15 +25,15 @@ use Rattle.definitions.specs.Fields.{field_bytes, field_of, field_at}
 use Rattle.definitions.specs.Reading.{refused, value, require, read_field, read_line, line_bytes, read_rows, read_piece, piece_bytes, read_pieces}
 use Rattle.definitions.specs.Text.{sizes_of, vertices_of, table_of, lengths_of}
 use Rattle.definitions.proofs.Laws.Members.{every_imp}
-use Rattle.definitions.proofs.Laws.Causes.{size_in_lem}
+use Rattle.definitions.proofs.Laws.CauseLaws.{size_in_lem}
 use Rattle.definitions.proofs.Laws.ReadLaws.{value_same, bind_value, require_value}
 use Rattle.judgements.specs.LentPieces.{judge_table}
 use Rattle.judgements.specs.PieceJudgement.{table_blocks}
 use Rattle.monge.specs.Matrix.{rows_in}
 use Rattle.text.specs.Outcomes.{Came, RowsLeft}
-use Rattle.text.specs.ReadSteps.{after, after_after, after_none, field_inside, field_in, judged, judged_stop, piece_of, read_sized, piece_stop, piece_go, vertices_stop, table_stop, table_go, pieces_go, pieces_stop}
+use Rattle.text.specs.ReadSteps.{after, after_after, after_none, field_inside, field_in, judged, piece_of, read_sized, piece_go, table_stop, table_go, pieces_go, pieces_stop}
 use Rattle.text.specs.Padding.{padded_inner}
-use Rattle.text.specs.Returns.{came_out, came_go, came_judged}
+use Rattle.text.specs.Returns.{judged_tail}
 use Rattle.text.specs.RowReading.{rows_back, line_end_in}
 
 pub record Shaped (q : Piece) : Type 0 where
@@ -132,10 +134,9 @@ pub record Sized (text : List ℕ) (at m : ℕ) : Type 0 where
   pub high : m ≤ max_size
   pub inside : at + field_bytes ≤ length text
 
-pub size_facts : (text : List ℕ) (at c m : ℕ) → Came (judged judge_size (read_field field_at text at)) c (λ x. m ≡ x) → c ≡ 0 → Sized text at m
+pub size_facts : (text : List ℕ) (at m : ℕ) → (x : ℕ) × (judged judge_size (read_field field_at text at) ≡ value x) × (m ≡ x) → Sized text at m
 unfolding judged
-size_facts text at c m came z =
-    let d = came.done z in
+size_facts text at m d =
     let a = bind_value (read_field field_at text at) _ d.0 d.1 in
     let b = bind_value (require (judge_size a.0)) _ d.0 a.2 in
     let same : a.0 ≡ m = value_same a.0 d.0 b.2 ∙ sym d.2 in
@@ -152,25 +153,18 @@ table_few m h = mul-le-mul h (let z : line_bytes m ≤ line_bytes max_size = (om
 -- ---- a table
 
 -- for every list of m vertices: its blocks do not ask which they are
-abbrev pub TableRead : List ℕ → ℕ → ℕ → ℕ → List ℕ → Type 0
-TableRead text at m number table = (vs : List ℕ) → length vs ≡ m → Came (judged (λ rows. judge_blocks (piece_of vs rows)) (read_rows text at m 0 m)) number (RowsLeft text at m table)
+abbrev pub TableRead : List ℕ → ℕ → ℕ → Result ⊤ Cause → List ℕ → Type 0
+TableRead text at m result table = (vs : List ℕ) → length vs ≡ m → Came (judged (λ rows. judge_blocks (piece_of vs rows)) (read_rows text at m 0 m)) result (λ _. RowsLeft text at m table)
 
-pub table_broken : (text : List ℕ) (at m c : ℕ) (left : List ℕ) → Came (read_rows text at m 0 m) c (RowsLeft text at m left) → c ≢ 0 → TableRead text at m c left
-table_broken text at m c left came h vs e = judged_out_of (came.stopped h)
-  where
-    judged_out_of : read_rows text at m 0 m ≡ refused c → Came (judged (λ rows. judge_blocks (piece_of vs rows)) (read_rows text at m 0 m)) c (RowsLeft text at m left)
-    judged_out_of q = came_out (judged (λ rows. judge_blocks (piece_of vs rows)) (read_rows text at m 0 m)) (RowsLeft text at m left) c h (judged_stop (λ rows. judge_blocks (piece_of vs rows)) (read_rows text at m 0 m) c q)
-
-pub table_judged : (text : List ℕ) (at m c k : ℕ) (table : List ℕ) → Came (read_rows text at m 0 m) c (RowsLeft text at m table) → c ≡ 0 → 1 ≤ m → m ≤ max_size → length table ≡ table_places
-    → k ≡ judge_table m table → TableRead text at m k table
+pub table_judged : (text : List ℕ) (at m : ℕ) (table : List ℕ) → (rows : List (List ℕ)) × (read_rows text at m 0 m ≡ value rows) × RowsLeft text at m table rows → 1 ≤ m → m ≤ max_size → length table ≡ table_places
+    → (r : Result ⊤ Cause) → verdict r ≡ judge_table m table → TableRead text at m r table
 unfolding judge_size within rows_in size_of
-table_judged text at m c k table came z low high long e vs n =
-    let d = came.done z in
+table_judged text at m table d low high long r e vs n =
     let left = d.2 in
     let same : rows_in m table ≡ d.0 = rw (← left.tall) (rows_back (length d.0) table d.0 (omega (arith, left.tall)) (rw (← left.tall) at left.wide) left.held) in
     let size : judge_size m ≡ 0 = simp (le-leb _ _ low, le-leb _ _ high) in
-    came_judged (λ rows. judge_blocks (piece_of vs rows)) (read_rows text at m 0 m) (RowsLeft text at m table) d.0 k d.1
-    (e ∙ table_blocks m table (piece_of vs d.0) long size n (sym same)) left
+    judged_tail (λ rows. judge_blocks (piece_of vs rows)) (read_rows text at m 0 m) (RowsLeft text at m table) d.0 d.1 left r
+    (e ∙ table_blocks m table (piece_of vs d.0) long size n (sym same))
 
 -- ---- the loop
 
@@ -181,9 +175,9 @@ pub record PieceLeft (text : List ℕ) (at : ℕ) (qs : List Piece) (next : ℕ)
   pub inside : next ≤ length text
 
 -- what `read_piece` leaves behind d pieces that the buffers hold, whichever they are
-abbrev pub ReadPieceLeaves : List ℕ → ℕ → ℕ → ℕ → List ℕ → List ℕ → List ℕ → ℕ → ℕ → List ℕ → List ℕ → List ℕ → Type 0
-ReadPieceLeaves text n at d sizes vertices lengths number next sizes' vertices' lengths' =
-    (qs : List Piece) → length qs ≡ d → Held qs sizes vertices lengths → Came (read_piece text n at) number (PieceLeft text at qs next sizes' vertices' lengths')
+abbrev pub ReadPieceLeaves : List ℕ → ℕ → ℕ → ℕ → List ℕ → List ℕ → List ℕ → Result ℕ Cause → List ℕ → List ℕ → List ℕ → Type 0
+ReadPieceLeaves text n at d sizes vertices lengths result sizes' vertices' lengths' =
+    (qs : List Piece) → length qs ≡ d → Held qs sizes vertices lengths → Came (read_piece text n at) result (λ next. PieceLeft text at qs next sizes' vertices' lengths')
 
 -- room for a piece behind the d that the buffers hold
 pub record Room (d : ℕ) (sizes vertices lengths : List ℕ) : Type 0 where
@@ -217,76 +211,67 @@ free_of d sizes vertices lengths room below = record {
   clear = table_clear room.pieces sizes vertices lengths room.held d room.count below;
 }
 
--- a piece of m vertices, with its vertices and its table in their places behind d pieces
-pub record SizedLeft (text : List ℕ) (at m d : ℕ) (vertices lengths vertices' lengths' : List ℕ) (q : Piece) : Type 0 where
+-- a piece, with its vertices and its table in their places
+pub record SizedLeft (text : List ℕ) (at : ℕ) (vs table : List ℕ) (q : Piece) : Type 0 where
   pub shape : Shaped q
-  pub size : size_of q ≡ m
-  pub vertices_put : vertices' ≡ put vertices (row_places * d) q.vertices
-  pub lengths_put : lengths' ≡ put lengths (table_places * d) (table_of q)
+  pub vertices_are : vs ≡ q.vertices
+  pub table_is : table ≡ table_of q
   pub inside : at + piece_bytes q ≤ length text
 
-module _ (text : List ℕ) (n at m k b : ℕ) (vs : List ℕ) (same : k ≡ m) (line : Came (judged (judge_vertices n) (read_line field_at text (at + field_bytes) k)) b (λ xs. vs ≡ xs)) where
-  pub sized_unlisted : (P : Piece → Type 0) → b ≢ 0 → Came (read_sized text n at m) b P
-  sized_unlisted P h = came_out (read_sized text n at m) P b h (vertices_stop text n at m b ((rw same at line).stopped h))
-
-  module _ (fine : b ≡ 0) where
+module _ (text : List ℕ) (n at m : ℕ) where
+  module _ (vs : List ℕ) (line : (xs : List ℕ) × (judged (judge_vertices n) (read_line field_at text (at + field_bytes) m) ≡ value xs) × (vs ≡ xs)) where
     listed : judged (judge_vertices n) (read_line field_at text (at + field_bytes) m) ≡ value vs
-    listed = let d = (rw same at line).done fine in d.1 ∙ ap value (sym d.2)
+    listed = line.1 ∙ ap value (sym line.2)
 
     -- where the rows begin
     pub rows_place : at + field_bytes * (m + 1) + 1 ≤ length text
     rows_place = omega (arith, line_end_in field_at (judge_vertices n) text (at + field_bytes) m vs listed)
 
-    module _ (long : length vs ≡ m) (f : ℕ) (table : List ℕ) (read : TableRead text (at + field_bytes * (m + 1) + 1) m f table) where
+    module _ (long : length vs ≡ m) (table : List ℕ) where
       where_rows : at + field_bytes * (m + 1) + 1 ≡ at + line_bytes (suc m)
       where_rows = omega arith
 
-      rows_came : Came (judged (λ rows. judge_blocks (piece_of vs rows)) (read_rows text (at + line_bytes (suc m)) m 0 m)) f (RowsLeft text (at + line_bytes (suc m)) m table)
-      rows_came = rw where_rows at (read vs long)
-
-      module _ (low : 1 ≤ m) (high : m ≤ max_size) (d : ℕ) (v l : List ℕ) where
-        sized_left : (rows : List (List ℕ)) → RowsLeft text (at + line_bytes (suc m)) m table rows → SizedLeft text at m d v l (put v (row_places * d) vs) (put l (table_places * d) table) (piece_of vs rows)
+      module _ (low : 1 ≤ m) (high : m ≤ max_size) where
+        sized_left : (rows : List (List ℕ)) → RowsLeft text (at + line_bytes (suc m)) m table rows → SizedLeft text at vs table (piece_of vs rows)
         unfolding piece_bytes size_of table_of
         sized_left rows left = record {
           shape = record { low = rw long low; high = rw long high; tall = left.tall ∙ sym long; wide = rw long left.wide };
-          size = long;
-          vertices_put = refl;
-          lengths_put = ap (λ (t : List ℕ). put l (table_places * d) t) left.held;
+          vertices_are = refl;
+          table_is = left.held;
           inside = rw long (omega (arith, left.inside));
         }
 
-        pub sized_read : Came (read_sized text n at m) f (SizedLeft text at m d v l (put v (row_places * d) vs) (put l (table_places * d) table))
-        sized_read = record {
-          done = λ z. let w = rows_came.done z in (piece_of vs w.0, table_go text n at m vs listed w.0 w.1, sized_left w.0 w.2);
-          stopped = λ h. table_stop text n at m vs listed f (rows_came.stopped h);
-        }
+        pub sized_read : (r : Result ⊤ Cause) → TableRead text (at + field_bytes * (m + 1) + 1) m r table → Came (read_sized text n at m) r (λ _. SizedLeft text at vs table)
+        sized_read (Ok u) read = let w = rw where_rows at (read vs long) in (piece_of vs w.0, table_go text n at m vs listed w.0 w.1, sized_left w.0 w.2)
+        sized_read (Err e) read = table_stop text n at m vs listed (number_of e) (rw where_rows at (read vs long))
 
 -- a piece, from its size and what follows
-module _ (text : List ℕ) (n at c m : ℕ) (size : Came (judged judge_size (read_field field_at text at)) c (λ x. m ≡ x)) where
-  pub piece_unsized : (P : Piece → Type 0) → c ≢ 0 → Came (read_piece text n at) c P
-  piece_unsized P h = came_out (read_piece text n at) P c h (piece_stop text n at c (size.stopped h))
+module _ (text : List ℕ) (n at m : ℕ) (size : (x : ℕ) × (judged judge_size (read_field field_at text at) ≡ value x) × (m ≡ x)) where
+  sized : read_piece text n at ≡ read_sized text n at m
+  sized = piece_go text n at m (size.1 ∙ ap value (sym size.2))
 
-  module _ (ok : c ≡ 0) (b d : ℕ) (v l v' l' : List ℕ) (rest : Came (read_sized text n at m) b (SizedLeft text at m d v l v' l')) where
-    sized : read_piece text n at ≡ read_sized text n at m
-    sized = let w = size.done ok in piece_go text n at m (w.1 ∙ ap value (sym w.2))
-
-    pub piece_unread : (P : Piece → Type 0) → b ≢ 0 → Came (read_piece text n at) b P
-    piece_unread P h = came_out (read_piece text n at) P b h (sized ∙ rest.stopped h)
+  module _ (k : ℕ) (same : k ≡ m) where
+    pub piece_unread : (j : ℕ) → read_sized text n at k ≡ refused j → read_piece text n at ≡ refused j
+    piece_unread j e = sized ∙ rw same at e
 
     -- behind the d pieces that the buffers hold
-    pub piece_read : b ≡ 0 → (qs : List Piece) (s : List ℕ) → length qs ≡ d → d < size_places → Held qs s v l
-        → Came (read_piece text n at) 0 (PieceLeft text at qs (at + field_bytes * (m + 1) + 1 + m * line_bytes m) (set s d m) v' l')
-    unfolding piece_bytes
-    piece_read z qs s count room held =
-        let w = rest.done z in
+    pub piece_read : (d : ℕ) (vs table : List ℕ) → length vs ≡ m → (q : Piece) × (read_sized text n at k ≡ value q) × SizedLeft text at vs table q
+        → (qs : List Piece) (s v l : List ℕ) → length qs ≡ d → d < size_places → Held qs s v l
+        → (q : Piece) × (read_piece text n at ≡ value q)
+        × PieceLeft text at qs (at + field_bytes * (m + 1) + 1 + m * line_bytes m) (set s d m) (put v (row_places * d) vs) (put l (table_places * d) table) q
+    unfolding piece_bytes size_of
+    piece_read d vs table long w qs s v l count room held =
         let left = w.2 in
-        let reached : at + field_bytes * (m + 1) + 1 + m * line_bytes m ≡ at + piece_bytes w.0 = rw left.size (omega arith) in
-        came_go (read_piece text n at) _ w.0 (sized ∙ w.1)
-        (record {
-          held = rw (← left.size, left.vertices_put, left.lengths_put) (held_more qs w.0 s v l held left.shape d count room);
-          reached = reached;
-          inside = omega (arith, reached, left.inside);
-        })
+        let size : size_of w.0 ≡ m = ap length (sym left.vertices_are) ∙ long in
+        let reached : at + field_bytes * (m + 1) + 1 + m * line_bytes m ≡ at + piece_bytes w.0 = rw size (omega arith) in (
+          w.0,
+          sized ∙ rw same at w.1,
+          record {
+            held = rw (← size, left.vertices_are, left.table_is) (held_more qs w.0 s v l held left.shape d count room);
+            reached = reached;
+            inside = omega (arith, reached, left.inside);
+          },
+        )
 
 -- d pieces are in the buffers, and the next begins at a place of the text
 pub record PiecesGoing (text : List ℕ) (n at p d place : ℕ) (sizes vertices lengths : List ℕ) : Type 0 where
@@ -304,10 +289,9 @@ pieces_begun text n at p sizes vertices lengths h l =
     record { pieces = []; count = refl; held = h; so_far = rw z (sym (after_none (read_pieces text n at p))); reached = omega arith; inside = l }
 
 module _ (text : List ℕ) (n at p d place : ℕ) (s v l : List ℕ) (g : PiecesGoing text n at p d place s v l) (more_left : d < p) where
-  pub pieces_turn : (c next : ℕ) (s' v' l' : List ℕ) → Came (read_piece text n place) c (PieceLeft text place g.pieces next s' v' l') → c ≡ 0 → PiecesGoing text n at p (d + 1) next s' v' l'
+  pub pieces_turn : (next : ℕ) (s' v' l' : List ℕ) → (q : Piece) × (read_piece text n place ≡ value q) × PieceLeft text place g.pieces next s' v' l' q → PiecesGoing text n at p (d + 1) next s' v' l'
   unfolding total
-  pieces_turn c next s' v' l' came z =
-      let w = came.done z in
+  pieces_turn next s' v' l' w =
       let q = w.0 in
       let k : p - d ≡ suc (p - (d + 1)) = (omega arith) in
       record {
@@ -319,11 +303,11 @@ module _ (text : List ℕ) (n at p d place : ℕ) (s v l : List ℕ) (g : Pieces
         inside = w.2.inside;
       }
 
-  pub pieces_broken : (c : ℕ) (P : Piece → Type 0) (Q : List Piece → Type 0) → Came (read_piece text n place) c P → c ≢ 0 → Came (read_pieces text n at p) c Q
+  pub pieces_broken : (j : ℕ) → read_piece text n place ≡ refused j → read_pieces text n at p ≡ refused j
   unfolding after
-  pieces_broken c P Q came h =
+  pieces_broken j e =
       let k : p - d ≡ suc (p - (d + 1)) = (omega arith) in
-      came_out (read_pieces text n at p) Q c h (g.so_far ∙ rw (k, pieces_stop text n place (p - (d + 1)) c (came.stopped h)))
+      g.so_far ∙ rw (k, pieces_stop text n place (p - (d + 1)) j e)
 
 -- what all pieces leave
 pub record PiecesLeft (text : List ℕ) (at p next : ℕ) (sizes vertices lengths : List ℕ) (qs : List Piece) : Type 0 where
@@ -332,9 +316,9 @@ pub record PiecesLeft (text : List ℕ) (at p next : ℕ) (sizes vertices length
   pub reached : next ≡ at + total (map piece_bytes qs)
   pub inside : next ≤ length text
 
-pub pieces_ended : (text : List ℕ) (n at p d place : ℕ) (s v l : List ℕ) → PiecesGoing text n at p d place s v l → d ≡ p → Came (read_pieces text n at p) 0 (PiecesLeft text at p place s v l)
+pub pieces_ended : (text : List ℕ) (n at p d place : ℕ) (s v l : List ℕ) → PiecesGoing text n at p d place s v l → d ≡ p
+    → (qs : List Piece) × (read_pieces text n at p ≡ value qs) × PiecesLeft text at p place s v l qs
 unfolding after read_pieces
 pieces_ended text n at p d place s v l g e =
     let z : p - d ≡ 0 = (omega arith) in
-    came_go (read_pieces text n at p) (PiecesLeft text at p place s v l) g.pieces (g.so_far ∙ rw (z, append-nil))
-    (record { count = g.count ∙ e; held = g.held; reached = g.reached; inside = g.inside })
+    (g.pieces, g.so_far ∙ rw (z, append-nil), record { count = g.count ∙ e; held = g.held; reached = g.reached; inside = g.inside })

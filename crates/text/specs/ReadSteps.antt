@@ -1,25 +1,23 @@
 -- Reading front to back, one step more: what a loop over fields, rows or pieces needs.
 --   after after_after                 what is read behind what is in hand
 --   Inside field_inside field_in fields_in   a field, and a line's fields, lie in the text
---   FieldsGoing fields_next fields_stop      the loop over a line's fields: one field more, or no field
---   NumbersGoing NumbersRead numbers-..      the same of numbers, for each reading that agrees with a field's where that is a number
+--   FieldsGoing fields-..             the loop over a line's fields: one field more, no field, or all of them
 --   require_stop require_two          a cause, and the first of two
 --   end_there end_other end_past      the byte at a line's end
 --   judged                            a line that is judged when it is read
 --   rows_go rows_stop pieces-..       one row more, one piece more
 --   read_sized piece-.. vertices_stop table-..   a piece, part by part
 use Rattle.std.specs.Prelude.{◌≡◌, refl, List, [], ◌∷◌, ◌++◌, ◌≢◌, ℕ, zero, suc, ◌+◌, ◌-◌, ◌*◌, ◌≤◌, ◌<◌, leb, get_or, length, take, set}
-use Rattle.std.proofs.Common.{sym, ap, ◌∙◌, append_assoc, arith, leb-true, eq-eqb, ne_eqb, length-set, take-suc-set, add-one}
+use Rattle.std.proofs.Common.{sym, ap, ◌∙◌, append_assoc, arith, leb-true, eq-eqb, ne_eqb, length-set, take-suc-set, add-one, append-nil, take_all}
 use Rattle.std.proofs.Math.ListN.{get_or-eq_default}
 use Rattle.logic.specs.Tests.{Truth, holds, fails, truth}
 use Rattle.definitions.specs.Lists.{first_cause}
 use Rattle.definitions.specs.Network.{Piece}
 use Rattle.definitions.specs.Judgement.{judge_size, judge_vertices, judge_row, judge_blocks}
-use Rattle.definitions.specs.Fields.{line_end, field_bytes, FieldAnswer, a_field, no_field, field_of, six_at, field_at, length_at}
+use Rattle.definitions.specs.Fields.{line_end, field_bytes, FieldAnswer, a_field, no_field, six_at, field_at, length_at}
 use Rattle.definitions.specs.Reading.{require, read_rows, read_piece, piece_bytes, read_pieces, FieldReading, Read, refused, value, ◌>>=◌, read_field, read_fields, judge_line_end, read_line, line_bytes}
-use Rattle.definitions.proofs.Laws.Causes.{refused as first, last}
+use Rattle.definitions.proofs.Laws.CauseLaws.{refused as first, last}
 use Rattle.definitions.proofs.Laws.ReadLaws.{bind_value, require_value}
-use Rattle.definitions.proofs.Laws.FieldKinds.{Agrees, agrees_at_lem}
 
 -- what is in hand, and then what is read
 unfoldable pub after : {A : Type 0} → List A → Read (List A) → Read (List A)
@@ -39,13 +37,15 @@ after_none (value zs) = refl
 
 -- ---- fields, read in one way or the other
 
-pub field_go : (field : FieldReading) (text : List ℕ) (at x : ℕ) → field text at ≡ a_field x → read_field field text at ≡ value x
-unfolding read_field
-field_go field text at x e = rw e
+-- what it says: a number, or nothing
+module _ (field : FieldReading) (text : List ℕ) (at : ℕ) where
+  pub field_go : (x : ℕ) → a_field x ≡ field text at → (y : ℕ) × (read_field field text at ≡ value y) × (x ≡ y)
+  unfolding read_field
+  field_go x e = (x, rw (← e), refl)
 
-pub field_stop : (field : FieldReading) (text : List ℕ) (at : ℕ) → field text at ≡ no_field → read_field field text at ≡ refused 3
-unfolding read_field
-field_stop field text at e = rw e
+  pub field_stop : no_field ≡ field text at → read_field field text at ≡ refused 3
+  unfolding read_field
+  field_stop e = rw (← e)
 
 -- a reading whose fields lie in the text
 abbrev pub Inside : FieldReading → Type 0
@@ -65,52 +65,55 @@ field_in field inside text at x e =
     let number = bind_value (require (field text at).number) _ x e in
     inside text at (require_value (field text at).number number.0 number.1)
 
-fields_go : (field : FieldReading) (text : List ℕ) (at k x : ℕ) → field text at ≡ a_field x → read_fields field text at (suc k) ≡ after (x ∷ []) (read_fields field text (at + field_bytes) k)
-unfolding read_fields after
-fields_go field text at k x e = rw (field_go field text at x e)
+module _ (field : FieldReading) (text : List ℕ) (at k : ℕ) where
+  fields_go : (x : ℕ) → read_field field text at ≡ value x → read_fields field text at (suc k) ≡ after (x ∷ []) (read_fields field text (at + field_bytes) k)
+  unfolding read_fields after
+  fields_go x e = rw e
 
-pub fields_stop : (field : FieldReading) (text : List ℕ) (at k : ℕ) → field text at ≡ no_field → read_fields field text at (suc k) ≡ refused 3
-unfolding read_fields
-fields_stop field text at k e = rw (field_stop field text at e)
+  fields_stop : (j : ℕ) → read_field field text at ≡ refused j → read_fields field text at (suc k) ≡ refused j
+  unfolding read_fields
+  fields_stop j e = rw e
 
--- i of k fields are in their places, and the next stands at a place of the text
-abbrev pub FieldsGoing : FieldReading → List ℕ → ℕ → ℕ → ℕ → ℕ → List ℕ → Type 0
-FieldsGoing field text at k i place out =
-    (i ≤ k) × (length out ≡ k) × (place ≤ length text) × (read_fields field text at k ≡ after (take i out) (read_fields field text place (k - i)))
+-- i of k fields are in their places
+pub record FieldsGoing (says : List ℕ → FieldAnswer) (text : List ℕ) (at k i : ℕ) (out : List ℕ) : Type 0 where
+  pub long : length out ≡ k
+  pub inside : at + field_bytes * i ≤ length text
+  pub so_far : read_fields (six_at says) text at k ≡ after (take i out) (read_fields (six_at says) text (at + field_bytes * i) (k - i))
 
-pub fields_next : (says : List ℕ → FieldAnswer) (text : List ℕ) (at k i place x : ℕ) (out : List ℕ) → FieldsGoing (six_at says) text at k i place out → i < length out → six_at says text place ≡ a_field x
-    → FieldsGoing (six_at says) text at k (i + 1) (place + field_bytes) (set out i x)
-fields_next says text at k i place x out g h e =
-    let z : k - i ≡ suc (k - (i + 1)) = omega (arith, g.1) in
-    let inside = field_inside says text place (ap (λ (f : FieldAnswer). f.number) e) in
-    (omega (arith, g.1), length-set out i x ∙ g.1, inside, g.3 ∙ rw (z, fields_go (six_at says) text place (k - (i + 1)) x e, after_after, add-one i, take-suc-set out i x h))
-
--- i of k numbers are in their places: so they are for each reading that says what a field says, where that is a number
-abbrev pub NumbersGoing : List ℕ → ℕ → ℕ → ℕ → ℕ → List ℕ → Type 0
-NumbersGoing text at k i place out =
-    (i ≤ k) × (length out ≡ k) × (place ≤ length text) × (place ≡ at + field_bytes * i) × ((says : List ℕ → FieldAnswer) → Agrees says → FieldsGoing (six_at says) text at k i place out)
-
--- they are all, or the next is no number
-pub record NumbersRead (text : List ℕ) (at k i : ℕ) (out : List ℕ) : Type 0 where
-  pub going : (says : List ℕ → FieldAnswer) → Agrees says → FieldsGoing (six_at says) text at k i (at + field_bytes * i) out
-  pub ends : i < k → field_at text (at + field_bytes * i) ≡ no_field
-
-pub numbers_begun : (text : List ℕ) (at k : ℕ) (out : List ℕ) → length out ≡ k → at ≤ length text → NumbersGoing text at k 0 at out
-numbers_begun text at k out l h =
+pub fields_begun : (says : List ℕ → FieldAnswer) (text : List ℕ) (at k : ℕ) (out : List ℕ) → length out ≡ k → at ≤ length text → FieldsGoing says text at k 0 out
+fields_begun says text at k out l h =
     let z : k - 0 ≡ k = omega arith in
-    let y : at ≡ at + field_bytes * 0 = omega arith in
-    (omega arith, l, h, y, λ says agrees. (omega arith, l, h, rw z (sym (after_none (read_fields (six_at says) text at k)))))
+    let y : at + field_bytes * 0 ≡ at = omega arith in
+    record { long = l; inside = omega arith; so_far = rw (z, y) (sym (after_none (read_fields (six_at says) text at k))) }
 
-pub numbers_next : (text : List ℕ) (at k i place x : ℕ) (out : List ℕ) → NumbersGoing text at k i place out → i < length out → field_at text place ≡ a_field x
-    → NumbersGoing text at k (i + 1) (place + field_bytes) (set out i x)
-numbers_next text at k i place x out g h e =
-    let next : (says : List ℕ → FieldAnswer) → Agrees says → FieldsGoing (six_at says) text at k (i + 1) (place + field_bytes) (set out i x)
-    = λ says agrees. fields_next says text at k i place x out (g.4 says agrees) h (agrees_at_lem says agrees text place x e) in
-    let own = next field_of (λ bytes y q. q) in
-    (own.0, own.1, own.2, omega (arith, g.3), next)
+module _ (says : List ℕ → FieldAnswer) (text : List ℕ) (at k i : ℕ) (out : List ℕ) (g : FieldsGoing says text at k i out) where
+  -- one field more
+  pub fields_next : (x : ℕ) → i < k → (y : ℕ) × (read_field (six_at says) text (at + field_bytes * i) ≡ value y) × (x ≡ y) → FieldsGoing says text at k (i + 1) (set out i x)
+  fields_next x h field =
+      let e = field.1 ∙ ap value (sym field.2) in
+      let z : k - i ≡ suc (k - (i + 1)) = omega arith in
+      let inside = field_in (six_at says) (field_inside says) text (at + field_bytes * i) x e in
+      let y : at + field_bytes * i + field_bytes ≡ at + field_bytes * (i + 1) = omega arith in
+      record {
+        long = length-set out i x ∙ g.long;
+        inside = rw (← y) inside;
+        so_far = g.so_far ∙ rw (z, fields_go (six_at says) text (at + field_bytes * i) (k - (i + 1)) x e, after_after, y, add-one i, take-suc-set out i x (omega (arith, g.long)));
+      }
 
-pub numbers_done : (text : List ℕ) (at k i place : ℕ) (out : List ℕ) → NumbersGoing text at k i place out → (i < k → field_at text place ≡ no_field) → NumbersRead text at k i out
-numbers_done text at k i place out g e = record { going = rw (← g.3) g.4; ends = rw (← g.3) e }
+  -- no field
+  pub fields_broken : (j : ℕ) → i < k → read_field (six_at says) text (at + field_bytes * i) ≡ refused j → read_fields (six_at says) text at k ≡ refused j
+  unfolding after
+  fields_broken j h e =
+      let z : k - i ≡ suc (k - (i + 1)) = omega arith in
+      g.so_far ∙ rw (z, fields_stop (six_at says) text (at + field_bytes * i) (k - (i + 1)) j e)
+
+  -- all of them
+  pub fields_ended : i ≡ k → read_fields (six_at says) text at k ≡ value out
+  unfolding after read_fields
+  fields_ended h =
+      let z : k - i ≡ 0 = omega arith in
+      let t : take i out ≡ out = take_all i out (omega (arith, g.long)) in
+      g.so_far ∙ rw (z, t, append-nil)
 
 pub fields_in : (field : FieldReading) → Inside field → (text : List ℕ) (at k : ℕ) (xs : List ℕ) → read_fields field text at k ≡ value xs → at ≤ length text → at + field_bytes * k ≤ length text
 unfolding read_fields
@@ -135,6 +138,7 @@ require_two (suc a) b k r e h = ap refused (sym (e ∙ first (suc a) (b ∷ []) 
 
 -- ---- the byte at a line's end
 
+-- it stands there, or not; past the text's end there is none
 module _ (text : List ℕ) (at : ℕ) where
   pub end_there : get_or text at 0 ≡ line_end → 0 ≡ judge_line_end text at
   unfolding judge_line_end
@@ -144,7 +148,6 @@ module _ (text : List ℕ) (at : ℕ) where
   unfolding judge_line_end
   end_other h = rw (ne_eqb _ _ h)
 
-  -- none past the text's end
   pub end_past : length text ≤ at → 3 ≡ judge_line_end text at
   end_past h = end_other (λ e. omega (arith, get_or-eq_default text 0 {n = at} h))
 

@@ -1,82 +1,58 @@
 -- What the code's returns need: a promise kept from the laws of reading.
---   came_out came_go          a refusal, a value
---   fields_broken fields_ended   the loop over a line's fields stops, or ends
---   numbers_few numbers_all   of a line's fields the numbers that stand first are some, or all
---   came_judged judged_refused   what is judged when it is read
+--   stopped                   the cause that `?` hands on
+--   judged_cause judged_tail judged_left   what is judged when it is read
 --   line-..                   a line, from its fields and the byte behind them
-use Rattle.std.specs.Prelude.{◌≡◌, List, length}
+use Rattle.std.specs.Prelude.{◌≡◌, List, length, ⊤, Result, Ok, Err, Option, Some, None}
+use Rattle.std.proofs.Common.{sym, ap, ◌∙◌}
+use Rattle.std.specs.Result.{IsErrAnd}
+use Rattle.std.specs.Option.{ok_or}
+use Rattle.std.proofs.lemmas.Result.{err_from_is_err_and}
 use Rattle.std.proofs.Math.Path.{refl}
-use Rattle.std.proofs.Common.{sym, ap, ◌∙◌, append-nil}
-use Rattle.std.proofs.Math.Logic.{◌≢◌}
-use Prim.Native.Nat.{ℕ, suc, ◌+◌, ◌-◌, ◌*◌, ◌≤◌, ◌<◌}
-use native.Mathlib.Omega.{arith}
-use Rattle.std.proofs.Math.ListN.{take}
-use Rattle.std.proofs.Math.Seq.{take_all}
-use Rattle.definitions.specs.Fields.{field_bytes, no_field, field_of, field_at}
-use Rattle.definitions.specs.Reading.{FieldReading, Read, refused, value, read_fields, judge_line_end, read_line}
+use Prim.Native.Nat.{ℕ, ◌+◌, ◌*◌, ◌≤◌}
+use Rattle.definitions.specs.declared.Cause.{Cause}
+use Rattle.definitions.specs.declared.Cause.TheVariants.{Layout}
+use Rattle.definitions.specs.Causes.{number_of, verdict}
+use Rattle.definitions.specs.Fields.{FieldAnswer, field_bytes, six_at, field_answer}
+use Rattle.definitions.specs.Reading.{FieldReading, Read, refused, value, read_field, read_fields, judge_line_end, read_line}
+use Rattle.judgements.proofs.OneAfterAnother.{not_none}
 use Rattle.text.specs.Outcomes.{Came}
-use Rattle.text.specs.ReadSteps.{FieldsGoing, NumbersRead, judged, judged_go, judged_out, judged_stop, after, Inside, fields_stop, fields_in}
+use Rattle.text.specs.ReadSteps.{judged, judged_go, judged_out, field_go, field_stop, field_inside, fields_in}
 
-module _ {A : Type 0} (read : Read A) (Shows : A → Type 0) where
-  pub came_out : (k : ℕ) → k ≢ 0 → read ≡ refused k → Came read k Shows
-  came_out k h e = record { done = λ z. absurd (h z); stopped = λ _. e }
+-- the cause that `?` hands on
+pub stopped : {A B : Type 0} (read : Read A) (Shows : B → A → Type 0) (e : Cause) (r : Result B Cause) → IsErrAnd r (λ y. y ≡ e) → read ≡ refused (number_of e) → Came read r Shows
+stopped read Shows e r out h = let p = err_from_is_err_and r out in rw (p.1, p.2) h
 
-  pub came_go : (a : A) → read ≡ value a → Shows a → Came read 0 Shows
-  came_go a e s = record { done = λ _. (a, e, s); stopped = λ n. absurd (n refl) }
-
-module _ (field : FieldReading) (text : List ℕ) (at k i place : ℕ) (out : List ℕ) (so_far : read_fields field text at k ≡ after (take i out) (read_fields field text place (k - i))) where
-  pub fields_broken : i < k → field text place ≡ no_field → Came (read_fields field text at k) 3 (λ xs. out ≡ xs)
-  unfolding after
-  fields_broken h e =
-      let z : k - i ≡ suc (k - (i + 1)) = (omega arith) in
-      let three : ◌≢◌ {A = ℕ} 3 0 = λ w. omega arith in
-      came_out (read_fields field text at k) (λ xs. out ≡ xs) 3 three (so_far ∙ rw (z, fields_stop field text place (k - (i + 1)) e))
-
-  pub fields_ended : i ≡ k → length out ≡ k → Came (read_fields field text at k) 0 (λ xs. out ≡ xs)
-  unfolding after read_fields
-  fields_ended h l =
-      let z : k - i ≡ 0 = (omega arith) in
-      let t : take i out ≡ out = take_all i out (omega arith) in
-      came_go (read_fields field text at k) (λ xs. out ≡ xs) out (so_far ∙ rw (z, t, append-nil)) refl
-
-module _ (text : List ℕ) (at k i : ℕ) (out : List ℕ) (numbers : NumbersRead text at k i out) where
-  own : FieldsGoing field_at text at k i (at + field_bytes * i) out
-  own = numbers.going field_of (λ bytes x e. e)
-
-  pub numbers_few : i < length out → Came (read_fields field_at text at k) 3 (λ xs. out ≡ xs)
-  numbers_few h =
-      let few : i < k = omega (arith, own.1) in
-      fields_broken field_at text at k i (at + field_bytes * i) out own.3 few (numbers.ends few)
-
-  pub numbers_all : length out ≤ i → Came (read_fields field_at text at k) 0 (λ xs. out ≡ xs)
-  numbers_all h = fields_ended field_at text at k i (at + field_bytes * i) out own.3 (omega (arith, own.0, own.1)) own.1
+-- a field that is a number, or none
+pub field_said : (field : FieldReading) (text : List ℕ) (at : ℕ) (o : Option ℕ) → field_answer o ≡ field text at → Came (read_field field text at) (ok_or o Layout) (λ x y. x ≡ y)
+field_said field text at (Some x) e = field_go field text at x e
+field_said field text at None e = field_stop field text at e
 
 -- ---- judged
 
-pub came_judged : {A : Type 0} (cause : A → ℕ) (read : Read A) (Shows : A → Type 0) (a : A) (k : ℕ) → read ≡ value a → k ≡ cause a → Shows a → Came (judged cause read) k Shows
-came_judged cause read Shows a k e q s = record {
-  done = λ z. (a, judged_go cause read a e (sym q ∙ z), s);
-  stopped = λ n. judged_out cause read a e (λ z. n (q ∙ z)) ∙ ap refused (sym q);
-}
+-- the cause that a judgement gives
+pub judged_cause : {A : Type 0} (cause : A → ℕ) (read : Read A) (a : A) → read ≡ value a → (e : Cause) → number_of e ≡ cause a → judged cause read ≡ refused (number_of e)
+judged_cause cause read a r e q = judged_out cause read a r (λ z. not_none e (q ∙ z)) ∙ ap refused (sym q)
 
-module _ (cause : List ℕ → ℕ) (read : Read (List ℕ)) (c : ℕ) (out : List ℕ) (came : Came read c (λ xs. out ≡ xs)) where
-  pub judged_refused : c ≢ 0 → Came (judged cause read) c (λ xs. out ≡ xs)
-  judged_refused h = came_out (judged cause read) (λ xs. out ≡ xs) c h (judged_stop cause read c (came.stopped h))
+-- the judgement is the answer
+pub judged_tail : {A : Type 0} (cause : A → ℕ) (read : Read A) (Shows : A → Type 0) (a : A) → read ≡ value a → Shows a → (r : Result ⊤ Cause) → verdict r ≡ cause a → Came (judged cause read) r (λ _. Shows)
+judged_tail cause read Shows a e s (Ok v) q = (a, judged_go cause read a e (sym q), s)
+judged_tail cause read Shows a e s (Err k) q = judged_cause cause read a e k q
 
-  pub judged_then : c ≡ 0 → (k : ℕ) → k ≡ cause out → Came (judged cause read) k (λ xs. out ≡ xs)
-  judged_then z k q = let d = came.done z in came_judged cause read (λ xs. out ≡ xs) out k (d.1 ∙ ap value (sym d.2)) q refl
+-- of what is left in `out`
+pub judged_left : (cause : List ℕ → ℕ) (read : Read (List ℕ)) (out : List ℕ) → (xs : List ℕ) × (read ≡ value xs) × (out ≡ xs) → (r : Result ⊤ Cause) → verdict r ≡ cause out → Came (judged cause read) r (λ _ xs. out ≡ xs)
+judged_left cause read out line r q = judged_tail cause read (λ xs. out ≡ xs) out (line.1 ∙ ap value (sym line.2)) refl r q
 
 -- ---- a line, which is its fields, judged by the byte behind them
 
-module _ (field : FieldReading) (text : List ℕ) (at k c : ℕ) (out : List ℕ) (came : Came (read_fields field text at k) c (λ xs. out ≡ xs)) where
-  pub line_refused : c ≢ 0 → Came (read_line field text at k) c (λ xs. out ≡ xs)
-  unfolding read_line judged
-  line_refused h = judged_refused (λ _. judge_line_end text (at + field_bytes * k)) (read_fields field text at k) c out came h
+module _ (says : List ℕ → FieldAnswer) (text : List ℕ) (at k : ℕ) where
+  pub line_stop : (j : ℕ) → read_fields (six_at says) text at k ≡ refused j → read_line (six_at says) text at k ≡ refused j
+  unfolding read_line
+  line_stop j e = rw e
 
-  module _ (ok : c ≡ 0) where
-    pub line_in : Inside field → at ≤ length text → at + field_bytes * k ≤ length text
-    line_in inside h = let d = came.done ok in fields_in field inside text at k d.0 d.1 h
+  module _ (out : List ℕ) (line : (xs : List ℕ) × (read_fields (six_at says) text at k ≡ value xs) × (out ≡ xs)) where
+    pub line_in : at ≤ length text → at + field_bytes * k ≤ length text
+    line_in h = fields_in (six_at says) (field_inside says) text at k line.0 line.1 h
 
-    pub line_then : (j : ℕ) → j ≡ judge_line_end text (at + field_bytes * k) → Came (read_line field text at k) j (λ xs. out ≡ xs)
+    pub line_end : (r : Result ⊤ Cause) → verdict r ≡ judge_line_end text (at + field_bytes * k) → Came (read_line (six_at says) text at k) r (λ _ xs. out ≡ xs)
     unfolding read_line judged
-    line_then j e = judged_then (λ _. judge_line_end text (at + field_bytes * k)) (read_fields field text at k) c out came ok j e
+    line_end r e = judged_left (λ _. judge_line_end text (at + field_bytes * k)) (read_fields (six_at says) text at k) out line r e

@@ -2,7 +2,7 @@
 --   RowsGoing rows_begun rows_turn rows_broken rows_ended   the loop over the rows
 --   line_ends line_end_in                               a line lies in the text
 --   rows_from_lem rows_back                             the rows of a table, read back from its places
-use Rattle.std.specs.Prelude.{◌≡◌, refl, ◌≢◌, eqb, get_or, length, take, drop, replicate}
+use Rattle.std.specs.Prelude.{◌≡◌, refl, eqb, get_or, length, take, drop, replicate}
 use Rattle.std.proofs.Common.{sym, ap, ◌∙◌, subst, add-one, arith, eqb-true, length-append, take_at, drop_at}
 use mathlib.Core.List.{List, [], ◌∷◌, ◌++◌, map, flat_map, append_assoc, append-nil}
 use Prim.Native.Nat.{ℕ, suc, ◌+◌, ◌-◌, ◌*◌, ◌≤◌, ◌<◌}
@@ -15,10 +15,9 @@ use Rattle.definitions.specs.Lists.{padded, up_from, Every}
 use Rattle.definitions.specs.Judgement.{judge_row}
 use Rattle.definitions.specs.Fields.{line_end, field_bytes, length_at}
 use Rattle.definitions.specs.Reading.{FieldReading, Read, refused, value, ◌>>=◌, require, read_fields, judge_line_end, read_line, line_bytes, read_rows}
-use Rattle.text.specs.Outcomes.{Came, RowsLeft}
+use Rattle.text.specs.Outcomes.{RowsLeft}
 use Rattle.text.specs.ReadSteps.{after, after_after, after_none, judged, rows_go, rows_stop}
 use Rattle.text.specs.Padding.{padded_inner}
-use Rattle.text.specs.Returns.{came_out, came_go}
 
 -- ---- a line lies in the text
 
@@ -89,11 +88,10 @@ rows_begun text at m table e h =
     }
 
 module _ (text : List ℕ) (at m i place : ℕ) (table : List ℕ) (g : RowsGoing text at m i place table) (small : m ≤ max_size) (more_left : i < m) where
-  pub rows_turn : (c k : ℕ) (part : List ℕ) → k ≡ m → Came (judged (judge_row i) (read_line length_at text place k)) c (λ xs. part ≡ xs) → c ≡ 0 → length part ≡ m
+  pub rows_turn : (part : List ℕ) → (xs : List ℕ) × (judged (judge_row i) (read_line length_at text place m) ≡ value xs) × (part ≡ xs) → length part ≡ m
       → RowsGoing text at m (i + 1) (place + line_bytes m) (put table (row_places * i) part)
-  rows_turn c n part same came z long =
-      let d = (rw same at came).done z in
-      let e : judged (judge_row i) (read_line length_at text place m) ≡ value part = d.1 ∙ ap value (sym d.2) in
+  rows_turn part row long =
+      let e : judged (judge_row i) (read_line length_at text place m) ≡ value part = row.1 ∙ ap value (sym row.2) in
       let k : m - i ≡ suc (m - (i + 1)) = (omega arith) in
       let fit : length part ≤ row_places = (omega arith) in
       let y = put_padded table_places (flat_map (padded row_places 0) g.rows) part (row_places * i) g.filled (omega arith) in
@@ -109,18 +107,17 @@ module _ (text : List ℕ) (at m i place : ℕ) (table : List ℕ) (g : RowsGoin
         inside = line_end_in length_at (judge_row i) text place m part e;
       }
 
-  pub rows_broken : (c k : ℕ) (part left : List ℕ) → k ≡ m → Came (judged (judge_row i) (read_line length_at text place k)) c (λ xs. part ≡ xs) → c ≢ 0 → Came (read_rows text at m 0 m) c (RowsLeft text at m left)
+  pub rows_broken : (j : ℕ) → judged (judge_row i) (read_line length_at text place m) ≡ refused j → read_rows text at m 0 m ≡ refused j
   unfolding after
-  rows_broken c j part left same came n =
+  rows_broken j e =
       let k : m - i ≡ suc (m - (i + 1)) = (omega arith) in
-      came_out (read_rows text at m 0 m) (RowsLeft text at m left) c n (g.so_far ∙ rw (k, rows_stop text place m i (m - (i + 1)) c ((rw same at came).stopped n)))
+      g.so_far ∙ rw (k, rows_stop text place m i (m - (i + 1)) j e)
 
-pub rows_ended : (text : List ℕ) (at m i place : ℕ) (table : List ℕ) → RowsGoing text at m i place table → i ≡ m → Came (read_rows text at m 0 m) 0 (RowsLeft text at m table)
+pub rows_ended : (text : List ℕ) (at m i place : ℕ) (table : List ℕ) → RowsGoing text at m i place table → i ≡ m → (rows : List (List ℕ)) × (read_rows text at m 0 m ≡ value rows) × RowsLeft text at m table rows
 unfolding after read_rows
 rows_ended text at m i place table g e =
     let z : m - i ≡ 0 = (omega arith) in
-    came_go (read_rows text at m 0 m) (RowsLeft text at m table) g.rows (g.so_far ∙ rw (z, append-nil))
-    (record { tall = g.count ∙ e; wide = g.wide; held = g.held; inside = omega (arith, g.reached, g.inside, ap (λ (n : ℕ). n * line_bytes m) e) })
+    (g.rows, g.so_far ∙ rw (z, append-nil), record { tall = g.count ∙ e; wide = g.wide; held = g.held; inside = omega (arith, g.reached, g.inside, ap (λ (n : ℕ). n * line_bytes m) e) })
 
 -- ---- read back
 

@@ -3,226 +3,126 @@
 
 mod field_reader;
 
-ghost use Rattle.std.specs.Prelude.{◌≡◌, [], ◌∷◌, ◌+◌, ◌<◌, ◌≤◌, length, replicate};
+ghost use Rattle.std.specs.Prelude.{◌≡◌, [], ◌∷◌, ◌+◌, ◌<◌, ◌≤◌, length, replicate, slice_get};
 ghost use Rattle.definitions.specs.Limits.{max_size, size_places, table_places};
 ghost use Rattle.definitions.specs.Lists.{first_cause};
 ghost use Rattle.definitions.specs.Judgement.{judge_size, judge_vertices, judge_row, judge_source};
-ghost use Rattle.definitions.specs.Fields.{field_bytes, field_at, length_at};
+ghost use Rattle.definitions.specs.Fields.{field_bytes, six_at, field_at, length_at};
 ghost use Rattle.definitions.specs.Reading.{line_bytes, read_field, read_fields, judge_line_end, read_line, read_rows, read_pieces, target_in, question_size, judge_asked, read_question, read_body, read_plan};
-ghost use Rattle.definitions.specs.Entries.{read_refusal, held_target, reading};
+ghost use Rattle.definitions.specs.Causes.{verdict};
+ghost use Rattle.definitions.specs.Entries.{reading};
 ghost use Rattle.text.specs.Outcomes.{Came, RowsLeft};
-ghost use Rattle.text.specs.ReadSteps.{NumbersRead, judged, read_sized};
+ghost use Rattle.text.specs.ReadSteps.{judged, read_sized};
 ghost use Rattle.text.specs.PieceReading.{Held, Room, Free, TableRead, SizedLeft, ReadPieceLeaves, PiecesLeft};
-ghost use Rattle.text.specs.QuestionReading.{asked_target, Asks, read_question_line};
-ghost use Rattle.text.specs.Plans.{PlanRead};
+ghost use Rattle.text.specs.QuestionReading.{asked, Asks, read_question_line};
+ghost use Rattle.text.specs.Plans.{PlanLeft, answer_of, Cleared, After};
 
-use bounds::{Cause, Network, Text};
+use bounds::{Network, Text};
 use buffers::fill;
-use definitions::{Field, Length, ReadAnswer};
-
-// The fields of a line from `at` on, as many as `out` has places, up to the first that is no number: how many these are.
-fn read_numbers(text: &[u8], at: usize, out: &mut [u32]) -> usize
-    requires { at ≤ length text.now }
-    ensures { NumbersRead text.now at (length out.old) result out.new }
-{
-    let mut i = 0;
-    let mut place = at;
-    while i < out.len() {
-        let field = field_reader::field_at(text, place);
-        let Field::Number(x) = field else {
-            return i;
-        };
-        out[i] = x;
-        place += Text::FIELD_BYTES;
-        i += 1;
-    }
-    i
-}
+use definitions::{Cause, ReadAnswer};
+use field_reader::{FieldReading, Lengths, Numbers};
 
 // The fields of a line from `at` on, as many as `out` has places; 3 if one is not a field.
-fn read_fields(text: &[u8], at: usize, out: &mut [u32]) -> u32
+// Each contract asks that the place lies in the text, so that none further on wraps; a `Reader` takes any place, so it is no invariant of one.
+fn read_fields<F: FieldReading>(text: &[u8], at: usize, out: &mut [u32]) -> Result<(), Cause>
     requires { at ≤ length text.now }
-    ensures { Came (read_fields field_at text.now at (length out.old)) result (λ xs. out.new ≡ xs) }
+    ensures { Came (read_fields (six_at F.says) text.now at (length out.old)) result (λ _ xs. out.new ≡ xs) }
 {
-    let numbers = read_numbers(text, at, out);
-    if numbers < out.len() {
-        return Cause::LAYOUT;
+    for (i, x) in out.iter_mut().enumerate() {
+        *x = F::read(text, at + Text::FIELD_BYTES * i)?;
     }
-    Cause::NONE
-}
-
-// The same of lengths; 3 if one is neither a number nor `-`. Only from a line's first `-` on is it looked for.
-fn read_length_fields(text: &[u8], at: usize, out: &mut [u32]) -> u32
-    requires { at ≤ length text.now }
-    ensures { Came (read_fields length_at text.now at (length out.old)) result (λ xs. out.new ≡ xs) }
-{
-    let mut i = read_numbers(text, at, out);
-    let mut place = at + Text::FIELD_BYTES * i;
-    while i < out.len() {
-        let length = field_reader::length_at(text, place);
-        let x = match length {
-            Length::Number(x) => x,
-            Length::NoPath => Network::NO_PATH,
-            Length::Malformed => return Cause::LAYOUT,
-        };
-        out[i] = x;
-        place += Text::FIELD_BYTES;
-        i += 1;
-    }
-    Cause::NONE
+    Ok(())
 }
 
 // The byte 10 at a line's end; past the text's end there is none.
-fn judge_line_end(text: &[u8], at: usize) -> u32
-    ensures { result ≡ judge_line_end text.now at }
+#[tactic(auto, using(crate::specs::ReadSteps::end_there, crate::specs::ReadSteps::end_other, crate::specs::ReadSteps::end_past))]
+fn judge_line_end(text: &[u8], at: usize) -> Result<(), Cause>
+    ensures { verdict result ≡ judge_line_end text.now at }
 {
-    if at >= text.len() {
-        return Cause::LAYOUT;
+    match text.get(at) {
+        Some(b'\n') => Ok(()),
+        _ => Err(Cause::Layout),
     }
-    if text[at] != b'\n' {
-        return Cause::LAYOUT;
-    }
-    Cause::NONE
 }
 
 // A line's layout: its fields, then one byte 10.
-fn read_line(text: &[u8], at: usize, out: &mut [u32]) -> u32
+fn read_line<F: FieldReading>(text: &[u8], at: usize, out: &mut [u32]) -> Result<(), Cause>
     requires { at ≤ length text.now }
-    ensures { Came (read_line field_at text.now at (length out.old)) result (λ xs. out.new ≡ xs) }
+    ensures { Came (read_line (six_at F.says) text.now at (length out.old)) result (λ _ xs. out.new ≡ xs) }
 {
     let k = out.len();
-    let cause = read_fields(text, at, out);
-    if cause != Cause::NONE {
-        return cause;
-    }
+    read_fields::<F>(text, at, out)?;
     judge_line_end(text, at + Text::FIELD_BYTES * k)
 }
 
-// The layout of a line of lengths: these, then one byte 10.
-fn read_lengths(text: &[u8], at: usize, out: &mut [u32]) -> u32
+// A line of vertices, then their judgement. `read_row` differs in the reading and the judgement alone; one function for both would say more than these two lines.
+fn read_vertices(text: &[u8], at: usize, n: u32, out: &mut [u32]) -> Result<(), Cause>
     requires { at ≤ length text.now }
-    ensures { Came (read_line length_at text.now at (length out.old)) result (λ xs. out.new ≡ xs) }
+    ensures { Came (judged (judge_vertices n) (read_line field_at text.now at (length out.old))) result (λ _ xs. out.new ≡ xs) }
 {
-    let k = out.len();
-    let cause = read_length_fields(text, at, out);
-    if cause != Cause::NONE {
-        return cause;
-    }
-    judge_line_end(text, at + Text::FIELD_BYTES * k)
-}
-
-// A line of vertices, then their judgement.
-fn read_vertices(text: &[u8], at: usize, n: u32, out: &mut [u32]) -> u32
-    requires { at ≤ length text.now }
-    ensures { Came (judged (judge_vertices n) (read_line field_at text.now at (length out.old))) result (λ xs. out.new ≡ xs) }
-{
-    let cause = read_line(text, at, out);
-    if cause != Cause::NONE {
-        return cause;
-    }
+    read_line::<Numbers>(text, at, out)?;
     judgements::judge_vertices(n, out)
 }
 
 // Row i of a table, then its judgement.
-fn read_row(text: &[u8], at: usize, i: usize, out: &mut [u32]) -> u32
+fn read_row(text: &[u8], at: usize, i: usize, out: &mut [u32]) -> Result<(), Cause>
     requires { at ≤ length text.now }
-    ensures { Came (judged (judge_row i) (read_line length_at text.now at (length out.old))) result (λ xs. out.new ≡ xs) }
+    ensures { Came (judged (judge_row i) (read_line length_at text.now at (length out.old))) result (λ _ xs. out.new ≡ xs) }
 {
-    let cause = read_lengths(text, at, out);
-    if cause != Cause::NONE {
-        return cause;
-    }
+    read_line::<Lengths>(text, at, out)?;
     judgements::judge_row(i, out)
 }
 
 // A piece's size, judged before the rest of its line is looked at.
-#[derive(Clone, Copy)]
-struct Size {
-    number: u32,
-    m: u32,
-}
-
-fn read_size(text: &[u8], at: usize) -> Size
-    ensures { Came (judged judge_size (read_field field_at text.now at)) result.number (λ m. result.m ≡ m) }
+fn read_size(text: &[u8], at: usize) -> Result<u32, Cause>
+    ensures { Came (judged judge_size (read_field field_at text.now at)) result (λ m x. m ≡ x) }
 {
-    let field = field_reader::field_at(text, at);
-    let Field::Number(m) = field else {
-        return Size {
-            number: Cause::LAYOUT,
-            m: 0,
-        };
-    };
-    Size {
-        number: judgements::judge_size(m),
-        m,
-    }
+    let m = Numbers::read(text, at)?;
+    judgements::judge_size(m)?;
+    Ok(m)
 }
 
 // The rows of a table, each judged as it is read, into the places of one table, which are 0.
-fn read_rows(text: &[u8], at: usize, m: usize, table: &mut [u32]) -> u32
+fn read_rows(text: &[u8], at: usize, m: usize, table: &mut [u32]) -> Result<(), Cause>
     requires { (at ≤ length text.now) × (m ≤ max_size) × (table.old ≡ replicate table_places 0) }
-    ensures { Came (read_rows text.now at m 0 m) result (RowsLeft text.now at m table.new) }
+    ensures { Came (read_rows text.now at m 0 m) result (λ _. RowsLeft text.now at m table.new) }
 {
-    let mut i = 0;
     let mut place = at;
-    while i < m {
+    for i in 0..m {
         let a = Network::ROW_PLACES * i;
-        let e = a + m;
-        let cause = read_row(text, place, i, &mut table[a..e]);
-        if cause != Cause::NONE {
-            return cause;
-        }
+        read_row(text, place, i, &mut table[a..a + m])?;
         place += Text::FIELD_BYTES * m + 1;
-        i += 1;
     }
-    Cause::NONE
+    Ok(())
 }
 
 // A table's rows, then the check of its blocks.
-fn read_table(text: &[u8], at: usize, m: usize, table: &mut [u32]) -> u32
+fn read_table(text: &[u8], at: usize, m: usize, table: &mut [u32]) -> Result<(), Cause>
     requires { (at ≤ length text.now) × (1 ≤ m) × (m ≤ max_size) × (table.old ≡ replicate table_places 0) }
     ensures { TableRead text.now at m result table.new }
 {
-    let cause = read_rows(text, at, m, table);
-    if cause != Cause::NONE {
-        return cause;
-    }
+    read_rows(text, at, m, table)?;
     judgements::judge_blocks(m as u32, table)
 }
 
-// The rest of piece d, whose size is m: its vertices, then its table, into their places.
+// The rest of a piece, behind its size: its vertices, then its table, into their places. It has as many vertices as are lent.
 fn read_sized(
     text: &[u8],
     at: usize,
     n: u32,
-    d: usize,
-    m: usize,
     vertices: &mut [u32],
-    lengths: &mut [u32],
-) -> u32
-    requires { (at + field_bytes ≤ length text.now) × (d < size_places) × (1 ≤ m) × (m ≤ max_size) × Free d vertices.old lengths.old }
-    ensures { Came (read_sized text.now n at m) result (SizedLeft text.now at m d vertices.old lengths.old vertices.new lengths.new) }
+    table: &mut [u32],
+) -> Result<(), Cause>
+    requires { (at + field_bytes ≤ length text.now) × (1 ≤ length vertices.old) × (length vertices.old ≤ max_size) × (table.old ≡ replicate table_places 0) }
+    ensures { Came (read_sized text.now n at (length vertices.old)) result (λ _. SizedLeft text.now at vertices.new table.new) }
 {
-    let a = Network::ROW_PLACES * d;
-    let e = a + m;
-    let cause = read_vertices(text, at + Text::FIELD_BYTES, n, &mut vertices[a..e]);
-    if cause != Cause::NONE {
-        return cause;
-    }
-    let rows = at + Text::FIELD_BYTES * (m + 1) + 1;
-    let b = Network::TABLE_PLACES * d;
-    let f = b + Network::TABLE_PLACES;
-    read_table(text, rows, m, &mut lengths[b..f])
+    let m = vertices.len();
+    read_vertices(text, at + Text::FIELD_BYTES, n, vertices)?;
+    read_table(text, at + Text::FIELD_BYTES * (m + 1) + 1, m, table)
 }
 
-// The cause that a piece gives, or 0 and where the next line begins.
-#[derive(Clone, Copy)]
-struct Progress {
-    number: u32,
-    next: usize,
-}
-
-// Piece d, behind those that the buffers hold already.
+// Piece d, behind those that the buffers hold already; where the next line begins. The three buffers stay three parameters: for a struct of three `&mut`
+// each contract would have to say of each that it is the same one after the call.
 fn read_piece(
     text: &[u8],
     at: usize,
@@ -231,32 +131,23 @@ fn read_piece(
     sizes: &mut [u32],
     vertices: &mut [u32],
     lengths: &mut [u32],
-) -> Progress
+) -> Result<usize, Cause>
     requires { (at ≤ length text.now) × (d < size_places) × Room d sizes.old vertices.old lengths.old }
-    ensures { ReadPieceLeaves text.now n at d sizes.old vertices.old lengths.old result.number result.next sizes.new vertices.new lengths.new }
+    ensures { ReadPieceLeaves text.now n at d sizes.old vertices.old lengths.old result sizes.new vertices.new lengths.new }
 {
-    let size = read_size(text, at);
-    let number = size.number;
-    if number != Cause::NONE {
-        return Progress { number, next: at };
-    }
-    let m = size.m as usize;
-    let cause = read_sized(text, at, n, d, m, vertices, lengths);
-    if cause != Cause::NONE {
-        return Progress {
-            number: cause,
-            next: at,
-        };
-    }
-    sizes[d] = size.m;
+    let size = read_size(text, at)?;
+    let m = size as usize;
+    let a = Network::ROW_PLACES * d;
+    let b = Network::TABLE_PLACES * d;
+    let table = &mut lengths[b..b + Network::TABLE_PLACES];
+    read_sized(text, at, n, &mut vertices[a..a + m], table)?;
+    sizes[d] = size;
     let rows = at + Text::FIELD_BYTES * (m + 1) + 1;
-    Progress {
-        number: Cause::NONE,
-        next: rows + m * (Text::FIELD_BYTES * m + 1),
-    }
+    Ok(rows + m * (Text::FIELD_BYTES * m + 1))
 }
 
-// All pieces, one after the other, into buffers that are 0.
+// All pieces, one after the other, into buffers that are 0; where the next line begins.
+// The three buffers are three parameters, as in `read_piece`.
 fn read_pieces(
     text: &[u8],
     at: usize,
@@ -265,42 +156,30 @@ fn read_pieces(
     sizes: &mut [u32],
     vertices: &mut [u32],
     lengths: &mut [u32],
-) -> Progress
+) -> Result<usize, Cause>
     requires { (at ≤ length text.now) × (p ≤ size_places) × Held [] sizes.old vertices.old lengths.old }
-    ensures { Came (read_pieces text.now n at p) result.number (PiecesLeft text.now at p result.next sizes.new vertices.new lengths.new) }
+    ensures { Came (read_pieces text.now n at p) result (λ next. PiecesLeft text.now at p next sizes.new vertices.new lengths.new) }
 {
-    let mut d = 0;
     let mut place = at;
-    while d < p {
-        let piece = read_piece(text, place, n, d, sizes, vertices, lengths);
-        let number = piece.number;
-        if number != Cause::NONE {
-            return Progress {
-                number,
-                next: place,
-            };
-        }
-        place = piece.next;
-        d += 1;
+    for d in 0..p {
+        place = read_piece(text, place, n, d, sizes, vertices, lengths)?;
     }
-    Progress {
-        number: Cause::NONE,
-        next: place,
-    }
+    Ok(place)
 }
 
-// A question: the cause that it gives, or 0, the source and the target, which is `NO_TARGET` where there is none.
+// What a question line asks for: from a source the labels of all vertices, or the route to a target.
 #[derive(Clone, Copy)]
 struct Question {
-    number: u32,
     source: u32,
-    target: u32,
+    target: Option<u32>,
 }
 
 // How many fields a question line has: one where byte 10 follows the first, else two. Past the text's end there is no byte 10.
+#[tactic(auto, using(crate::specs::QuestionReading::size_one, crate::specs::QuestionReading::size_two, crate::specs::QuestionReading::size_short))]
 fn question_size(text: &[u8], at: usize) -> usize
     requires { at ≤ length text.now }
-    ensures { result ≡ question_size text.now at }
+    ensures size { result ≡ question_size text.now at }
+    ensures few { (1 ≤ result) × (result ≤ 2) }
 {
     if text.len() - at <= Text::FIELD_BYTES {
         return 2;
@@ -312,98 +191,69 @@ fn question_size(text: &[u8], at: usize) -> usize
 }
 
 // The target that the fields of a question line say.
-fn target_in(fields: &[u32]) -> u32
-    ensures { result ≡ held_target (target_in fields.now) }
+fn target_in(fields: &[u32]) -> Option<u32>
+    ensures { result ≡ slice_get fields.now 1 }
 {
-    if fields.len() < 2 {
-        return Network::NO_TARGET;
-    }
-    fields[1]
+    fields.get(1).copied()
 }
 
-// The target if there is one, else 12. No field says the number that stands for none.
-fn judge_asked(n: u32, target: u32) -> u32
-    ensures { result ≡ judge_asked n (asked_target target) }
+// The target if there is one, else 12.
+#[tactic(auto, using(crate::specs::QuestionReading::asked_none, crate::specs::QuestionReading::asked_some))]
+fn judge_asked(n: u32, target: Option<u32>) -> Result<(), Cause>
+    ensures { verdict result ≡ judge_asked n (asked target) }
 {
-    if target == Network::NO_TARGET {
-        return Cause::NONE;
+    match target {
+        Some(target) => judgements::judge_target(n, target),
+        None => Ok(()),
     }
-    judgements::judge_target(n, target)
 }
 
 // The source, then the target: where both are wrong the first counts.
-fn judge_question(n: u32, source: u32, target: u32) -> u32
-    ensures { result ≡ first_cause (judge_source n source ∷ judge_asked n (asked_target target) ∷ []) }
+#[tactic(auto, using(crate::specs::QuestionReading::first_counts, crate::specs::QuestionReading::second_counts))]
+fn judge_question(n: u32, question: Question) -> Result<(), Cause>
+    ensures { verdict result ≡ first_cause (judge_source n question.source ∷ judge_asked n (asked question.target) ∷ []) }
 {
-    let source_cause = judgements::judge_source(n, source);
-    let target_cause = judge_asked(n, target);
-    if source_cause != Cause::NONE {
-        return source_cause;
-    }
-    target_cause
+    judgements::judge_source(n, question.source)?;
+    judge_asked(n, question.target)
 }
 
 // A question line of one field or two, as `fields` has places: its layout, its judgement, and then the text's end.
-fn read_question_line(text: &[u8], at: usize, n: u32, fields: &mut [u32]) -> Question
+fn read_question_line(text: &[u8], at: usize, n: u32, fields: &mut [u32]) -> Result<Question, Cause>
     requires { (at ≤ length text.now) × (1 ≤ length fields.old) × (length fields.old ≤ 2) }
-    ensures { Came (read_question_line text.now n at (length fields.old)) result.number (Asks result.source result.target) }
+    ensures { Came (read_question_line text.now n at (length fields.old)) result Asks }
 {
-    let cause = read_line(text, at, fields);
-    let source = fields[0];
-    let target = target_in(fields);
-    if cause != Cause::NONE {
-        return Question {
-            number: cause,
-            source,
-            target,
-        };
-    }
-    let wrong = judge_question(n, source, target);
-    if wrong != Cause::NONE {
-        return Question {
-            number: wrong,
-            source,
-            target,
-        };
-    }
+    read_line::<Numbers>(text, at, fields)?;
+    let question = Question {
+        source: fields[0],
+        target: target_in(fields),
+    };
+    judge_question(n, question)?;
     if text.len() - at != Text::FIELD_BYTES * fields.len() + 1 {
-        return Question {
-            number: Cause::LAYOUT,
-            source,
-            target,
-        };
+        return Err(Cause::Layout);
     }
-    Question {
-        number: Cause::NONE,
-        source,
-        target,
-    }
+    Ok(question)
 }
 
 // The question line, of as many fields as it has.
-fn read_question(text: &[u8], at: usize, n: u32) -> Question
+fn read_question(text: &[u8], at: usize, n: u32) -> Result<Question, Cause>
     requires { at ≤ length text.now }
-    ensures { Came (read_question text.now n at) result.number (Asks result.source result.target) }
+    ensures { Came (read_question text.now n at) result Asks }
 {
     let mut line = [0u32; 2];
     let k = question_size(text, at);
     read_question_line(text, at, n, &mut line[..k])
 }
 
-// A refusal's answer: its number, and no network.
-fn refusal(number: u32) -> ReadAnswer
-    ensures { result ≡ read_refusal number }
-{
-    ReadAnswer {
-        number,
-        n: 0,
-        p: 0,
-        source: 0,
-        target: 0,
-    }
+// What a text says, but for the pieces, which the buffers hold.
+#[derive(Clone, Copy)]
+struct Plan {
+    n: u32,
+    p: u32,
+    question: Question,
 }
 
 // What follows the line of n and p, into buffers that are 0.
+// The three buffers are three parameters, as in `read_piece`.
 fn read_body(
     text: &[u8],
     n: u32,
@@ -411,33 +261,22 @@ fn read_body(
     sizes: &mut [u32],
     vertices: &mut [u32],
     lengths: &mut [u32],
-) -> ReadAnswer
+) -> Result<Plan, Cause>
     requires { (line_bytes 2 ≤ length text.now) × Held [] sizes.old vertices.old lengths.old }
-    ensures { PlanRead (read_body text.now n p) result sizes.new vertices.new lengths.new }
+    ensures { Came (read_body text.now n p) result (PlanLeft sizes.new vertices.new lengths.new) }
 {
-    let bounds = judgements::judge_bounds(n, p);
-    if bounds != Cause::NONE {
-        return refusal(bounds);
-    }
-    let at = Text::LINE_OF_TWO;
-    let pieces = read_pieces(text, at, n, p as usize, sizes, vertices, lengths);
-    let number = pieces.number;
-    if number != Cause::NONE {
-        return refusal(number);
-    }
-    let next = pieces.next;
-    let question = read_question(text, next, n);
-    let asked = question.number;
-    if asked != Cause::NONE {
-        return refusal(asked);
-    }
-    ReadAnswer {
-        number: Cause::NONE,
+    judgements::judge_bounds(n, p)?;
+    let next = read_pieces(
+        text,
+        Text::LINE_OF_TWO,
         n,
-        p,
-        source: question.source,
-        target: question.target,
-    }
+        p as usize,
+        sizes,
+        vertices,
+        lengths,
+    )?;
+    let question = read_question(text, next, n)?;
+    Ok(Plan { n, p, question })
 }
 
 // The text from front to back, into buffers that are 0.
@@ -446,16 +285,66 @@ fn read_plan(
     sizes: &mut [u32],
     vertices: &mut [u32],
     lengths: &mut [u32],
-) -> ReadAnswer
+) -> Result<Plan, Cause>
     requires { Held [] sizes.old vertices.old lengths.old }
-    ensures { PlanRead (read_plan text.now) result sizes.new vertices.new lengths.new }
+    ensures { Came (read_plan text.now) result (PlanLeft sizes.new vertices.new lengths.new) }
 {
     let mut line = [0u32; 2];
-    let cause = read_line(text, 0, &mut line);
-    if cause != Cause::NONE {
-        return refusal(cause);
-    }
+    read_line::<Numbers>(text, 0, &mut line)?;
     read_body(text, line[0], line[1], sizes, vertices, lengths)
+}
+
+// The answer as C takes it: the plan, or the cause's number and no network.
+fn answer_of(read: Result<Plan, Cause>) -> ReadAnswer
+    ensures { result ≡ answer_of read }
+{
+    match read {
+        Ok(plan) => ReadAnswer {
+            number: 0,
+            n: plan.n,
+            p: plan.p,
+            source: plan.question.source,
+            target: plan.question.target.unwrap_or(Network::NO_TARGET),
+        },
+        Err(cause) => ReadAnswer {
+            number: cause.number(),
+            n: 0,
+            p: 0,
+            source: 0,
+            target: 0,
+        },
+    }
+}
+
+// Sets every place of the three buffers to 0.
+fn clear(sizes: &mut [u32], vertices: &mut [u32], lengths: &mut [u32])
+    ensures { Cleared sizes.old vertices.old lengths.old sizes.new vertices.new lengths.new }
+{
+    fill(sizes, 0);
+    fill(vertices, 0);
+    fill(lengths, 0);
+}
+
+// The buffers, the length of the text, the text. The first two causes leave the buffers; any other leaves them all 0.
+#[tactic(auto, using(crate::specs::Plans::after_buffers, crate::specs::Plans::after_long))]
+fn read_lent(
+    text: &[u8],
+    sizes: &mut [u32],
+    vertices: &mut [u32],
+    lengths: &mut [u32],
+) -> Result<Plan, Cause>
+    ensures { After (answer_of result) sizes.new vertices.new lengths.new ≡ reading text.now sizes.old vertices.old lengths.old }
+{
+    judgements::judge_buffers(sizes.len(), vertices.len(), lengths.len())?;
+    if text.len() > Text::MAX_BYTES {
+        return Err(Cause::Text);
+    }
+    clear(sizes, vertices, lengths);
+    let plan = read_plan(text, sizes, vertices, lengths);
+    if plan.is_err() {
+        clear(sizes, vertices, lengths);
+    }
+    plan
 }
 
 // Reads a text into the lent sizes, vertices and lengths. A buffer of another size (1) or a text that is too long (2) leaves them; any
@@ -468,23 +357,5 @@ pub fn read_text(
 ) -> ReadAnswer
     ensures { record { answer = result; sizes = sizes.new; vertices = vertices.new; lengths = lengths.new } ≡ reading text.now sizes.old vertices.old lengths.old }
 {
-    let buffers = judgements::judge_buffers(sizes.len(), vertices.len(), lengths.len());
-    if buffers != Cause::NONE {
-        return refusal(buffers);
-    }
-    if text.len() > Text::MAX_BYTES {
-        return refusal(Cause::TEXT);
-    }
-    fill(sizes, 0);
-    fill(vertices, 0);
-    fill(lengths, 0);
-    let answer = read_plan(text, sizes, vertices, lengths);
-    let number = answer.number;
-    if number == Cause::NONE {
-        return answer;
-    }
-    fill(sizes, 0);
-    fill(vertices, 0);
-    fill(lengths, 0);
-    answer
+    answer_of(read_lent(text, sizes, vertices, lengths))
 }

@@ -1,17 +1,15 @@
 -- `read_line`: the fields lie in the text, so that the place behind them fits its type.
 use borrow.Author.Rules.{rules}
-use Rattle.definitions.specs.Fields.{field_of}
-use Rattle.text.specs.ReadSteps.{field_inside}
-use Rattle.text.specs.Returns.{line_refused, line_in, line_then}
+use Rattle.text.specs.Returns.{stopped, line_stop, line_in, line_end}
 use Rattle.text.proofs.read_line.Goals as goal
 
-pub returns-then-cause-ne-NONE : goal.returns-then-cause-ne-NONE
-returns-then-cause-ne-NONE c = line_refused _ _ _ _ _ _ c.read_fields-cause.ensures c.if-cause-ne-NONE.true
+pub returns-in_err-read_fields : goal.returns-in_err-read_fields
+returns-in_err-read_fields g c = stopped _ _ _ _ c.from_residual.ensures.1 (line_stop _ _ _ _ _ c.in_err-read_fields.ensures)
 
 pub overflow_add-at : goal.overflow_add-at
-overflow_add-at c =
-    let h = line_in _ _ _ _ _ _ c.read_fields-cause.ensures c.if-cause-ne-NONE.false (field_inside field_of) c.requires in
+overflow_add-at g c =
+    let h = line_in _ _ _ _ _ c.in_ok-read_fields.ensures c.requires in
     search rules
 
 pub returns : goal.returns
-returns c = line_then _ _ _ _ _ _ c.read_fields-cause.ensures c.if-cause-ne-NONE.false _ c.judge_line_end.ensures
+returns g c = line_end _ _ _ _ _ c.in_ok-read_fields.ensures _ c.judge_line_end.ensures

@@ -1,12 +1,13 @@
 -- `read_plan`: the first line, then what `read_body` reads.
-use Rattle.text.specs.Plans.{line_end_in_first, plan_line, plan_body}
+use Rattle.text.specs.Returns.{stopped}
+use Rattle.text.specs.Plans.{plan_stop, pieces_inside, plan_body}
 use Rattle.text.proofs.read_plan.Goals as goal
 
-pub returns-then-cause-ne-NONE : goal.returns-then-cause-ne-NONE
-returns-then-cause-ne-NONE c = rw c.refusal.ensures (plan_line _ _ _ c.read_line-cause.ensures _ _ _ c.if-cause-ne-NONE.true)
+pub returns-in_err-read_line : goal.returns-in_err-read_line
+returns-in_err-read_line c = stopped _ _ _ _ c.from_residual.ensures.1 (plan_stop _ _ c.in_err-read_line.ensures)
 
 pub read_body-requires : goal.read_body-requires
-read_body-requires c = (line_end_in_first _ _ c.read_line-cause.ensures c.if-cause-ne-NONE.false, c.requires)
+read_body-requires c = (pieces_inside _ _ c.in_ok-read_line.ensures, c.requires)
 
 pub returns : goal.returns
-returns c = plan_body _ _ _ c.read_line-cause.ensures _ _ _ c.if-cause-ne-NONE.false _ c.read_body.ensures
+returns c = plan_body _ _ c.in_ok-read_line.ensures _ _ _ _ c.read_body.ensures

@@ -1,33 +1,26 @@
 -- `read_question`: as many places are lent as the line has fields.
-use mathlib.Core.Path.{◌≡◌}
+use mathlib.Core.Path.{◌≡◌, sym}
 use mathlib.Core.List.{[], ◌∷◌}
 use Prim.Native.Nat.{ℕ, ◌≤◌}
 use native.Mathlib.Omega.{arith}
 use lib.ListN.{length, take}
 use lib.Seq.{length-take-le}
-use Rattle.definitions.proofs.Laws.LineProofs.{question_size_lem}
 use Rattle.text.specs.QuestionReading.{question_sized}
-use borrow.Author.Rules.{rules}
 use Rattle.text.proofs.read_question.Goals as goal
 
-pub slice_bounds-line-end : goal.slice_bounds-line-end
-slice_bounds-line-end c = let few : (1 ≤ c.question_size-k.result) × (c.question_size-k.result ≤ 2) = let a = c.args in rw c.question_size-k.ensures (question_size_lem a.text.now a.at) in
-    few.1
+-- the first k of two places
+lent : (k : ℕ) → k ≤ 2 → k ≡ length (take {A = ℕ} k (0 ∷ 0 ∷ []))
+lent k few = sym (length-take-le k (0 ∷ 0 ∷ []) few)
 
 pub slice_bounds-read_question_line-end : goal.slice_bounds-read_question_line-end
-slice_bounds-read_question_line-end c = let few : (1 ≤ c.question_size-k.result) × (c.question_size-k.result ≤ 2) = let a = c.args in rw c.question_size-k.ensures (question_size_lem a.text.now a.at) in
-    let lent : length (take {A = ℕ} c.question_size-k.result (0 ∷ 0 ∷ [])) ≡ c.question_size-k.result = length-take-le c.question_size-k.result (0 ∷ 0 ∷ []) few.1 in
-    let l = lent in search rules
+slice_bounds-read_question_line-end c = lent _ c.question_size-k.ensures.few.1
 
 pub read_question_line-requires : goal.read_question_line-requires
-read_question_line-requires c = let few : (1 ≤ c.question_size-k.result) × (c.question_size-k.result ≤ 2) = let a = c.args in rw c.question_size-k.ensures (question_size_lem a.text.now a.at) in
-    let lent : length (take {A = ℕ} c.question_size-k.result (0 ∷ 0 ∷ [])) ≡ c.question_size-k.result = length-take-le c.question_size-k.result (0 ∷ 0 ∷ []) few.1 in
-    let l = lent in
-    let f = few in
+read_question_line-requires c =
+    let places = lent _ c.question_size-k.ensures.few.1 in
     (c.requires, omega arith, omega arith)
 
 pub returns : goal.returns
-returns c = let few : (1 ≤ c.question_size-k.result) × (c.question_size-k.result ≤ 2) = let a = c.args in rw c.question_size-k.ensures (question_size_lem a.text.now a.at) in
-    let lent : length (take {A = ℕ} c.question_size-k.result (0 ∷ 0 ∷ [])) ≡ c.question_size-k.result = length-take-le c.question_size-k.result (0 ∷ 0 ∷ []) few.1 in
+returns c =
     let a = c.args in
-    rw (question_sized a.text.now a.n a.at, ← c.question_size-k.ensures, ← lent) c.read_question_line.ensures
+    rw (question_sized a.text.now a.n a.at, ← c.question_size-k.ensures.size, lent _ c.question_size-k.ensures.few.1) c.read_question_line.ensures

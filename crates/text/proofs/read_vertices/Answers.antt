@@ -1,9 +1,10 @@
 -- `read_vertices`: the line, then its judgement.
-use Rattle.text.specs.Returns.{judged_refused, judged_then}
+use Rattle.text.specs.ReadSteps.{judged_stop}
+use Rattle.text.specs.Returns.{stopped, judged_left}
 use Rattle.text.proofs.read_vertices.Goals as goal
 
-pub returns-then-cause-ne-NONE : goal.returns-then-cause-ne-NONE
-returns-then-cause-ne-NONE c = judged_refused _ _ _ _ c.read_line-cause.ensures c.if-cause-ne-NONE.true
+pub returns-in_err-read_line : goal.returns-in_err-read_line
+returns-in_err-read_line c = stopped _ _ _ _ c.from_residual.ensures.1 (judged_stop _ _ _ c.in_err-read_line.ensures)
 
 pub returns : goal.returns
-returns c = judged_then _ _ _ _ c.read_line-cause.ensures c.if-cause-ne-NONE.false _ c.judge_vertices.ensures
+returns c = judged_left _ _ _ c.in_ok-read_line.ensures _ c.judge_vertices.ensures
