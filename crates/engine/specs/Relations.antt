@@ -3,8 +3,7 @@
 -- model fits the arrays; Leaves hold for every model that fitted them. A relation of a state has a name of its own.
 --
 -- The arrays as values (`Labeller/State`, `Labeller/StepLoop`)
---   Tables                the matrix, the index of its rows, and the one array of prepared numbers: they stay
---   Heaps                 the tables, the labels of all rows, and the words of all heaps
+--   Heaps                 the tables (the matrix, the index of its rows, and the one array of prepared numbers), which stay, the labels of all rows, and the words of all heaps
 --   Arrays                the heaps, and the tournament of the blocks
 --   Store                 the arrays, the labels of the vertices, and the words of the arcs that they were settled by
 --
@@ -52,7 +51,8 @@
 --   Running               the heaps hold given states, and the tournament is that of their least sums
 --   HoldsBlocks HoldsBlock     the heaps hold the models of given states; one block's heap holds its model
 --   Parted BlockLies      the tables part the arrays among given blocks; one block is a window of the matrix
---   Bounds                the numbers of a block lie within the arrays
+--   BlockNeeds Leaves     what a heap reads of its block
+--   WordsAre              where the words of a block's heap begin and end
 --
 -- The tournament (`Tree/TreeWords`, `Tree/Climb`)
 --   IsTournament          the words hold the best of each block
@@ -81,7 +81,7 @@
 --   ParentIs              the parent of a column that is handed out
 --   Becomes               the words hold the next model, and so many intervals are inserted and removed
 --   RowActivated Falls    the next model is held, and the least sum falls as is returned
---   LeastLeaves Keeps     the least of the bests; of the intervals so far
+--   LeastLeaves LeastIs   the least of the bests, by what is answered; that it is the least
 --   IsLeast HasIndex      the lowest column of least length on a stretch of a row; the index that is asked for it
 --   RowBest StretchFits   an interval carries the best of its stretch; a stretch that can be read, with a path at each column
 --   PutWonNeeds Leaves    the columns that are won, with room for the row's intervals; these stand in their place
@@ -91,15 +91,15 @@
 --   SearchNeeds Leaves    what the search may rely on; the intervals that meet the won columns, and the stretch of these
 --   WonAt LostAt          the row wins a column, from an interval's parent or as the first to reach it; it does not
 --   IsBelowNeeds          two rows whose sums at a column can be compared
---   TurnLeaves EndOfLeaves     the column at which a test begins to hold; one past the last column before it
---   FirstYesNeeds Between      a question whose answers do not fall back; where they turn to yes
+--   TurnLeaves TurnFound EndOfLeaves    the column at which a test begins to hold, one that is called too; one past the last column before it
+--   Between TurnOf Halving     where a test that does not fall back turns; where one that is called does; the numbers that are left
 --   Rises Climbs          a test that does not fall back; along the columns of some intervals
---   Asked                 a number that the question may be asked of
+--   AsksIn Tells Says     a test that may be called at some numbers; a test of the specs that says what it returns
 --   WinsBeside Beside     where it says so, no column of an interval is won; one next to a place between the intervals is
 --   Some                  something is won
 --   LeftWon RightWon      what is won from lower parents; from higher ones
 --   GapNeeds Leaves       what the search among columns in no interval may rely on; the stretch of those that the row is the first to reach
---   FirstIn LastIn        the first of some numbers at which a test holds; one past the last
+--   FirstOf LastOf        the first of some numbers at which a test holds; one past the last
 --
 -- The columns that are reached (`Heap/Reaching`, `Heap/WordLaws`)
 --   Reaches ReachLeaves   the columns of a stretch at which the row has a path are marked in addition; and the intervals are as they were

@@ -2,12 +2,12 @@
 --   Becomes becomes                  the words hold another model; inserted and removed are the model's
 --   ActivateGiven ActivateNeeds ActivateLeaves    an activation, of a given model; of some model; of any
 --   Falls RowActivated               what it leaves, and how the least sum falls
---   PutWonNeeds PutWonLeaves won_needs    the columns that are won get the row's intervals
+--   PutWonNeeds PutWonLeaves won_can won_needs    the columns that are won get the row's intervals
 --   marks_counted                    the marks of the columns that are reached
 --   activated_none activated_some    nothing is won; columns are won
 --   PutAllLeaves activated_all       all columns are won at once
---   removed_by ParentIs MinExtracted ExtractMinLeaves extracted-..    an extraction, from a given model; from any
-use Rattle.std.specs.Prelude.{◌≡◌, Bool, ◌||◌, List, ◌++◌, ◌⊎◌, ◌≢◌, eqb}
+--   removed_by ParentIs MinExtracted told_of inserted_of parent_of ExtractMinLeaves extracted-..    an extraction, from a given model; from any
+use Rattle.std.specs.Prelude.{◌≡◌, Bool, ◌||◌, List, ◌++◌, ◌⊎◌, ◌≢◌, eqb, Option, Some, None}
 use Rattle.std.proofs.Math.Path.{refl, sym, ap}
 use Rattle.std.proofs.Common.{◌∙◌, inl, inr, ⊎_elim, le_refl}
 use Rattle.std.proofs.Math.Bool.{true, false, cond, or-true, or-false}
@@ -27,8 +27,6 @@ use Rattle.definitions.specs.Labelling.{activation, extraction, place_in}
 use Rattle.definitions.specs.HeapWords.{count_word, reached_word, heap_words, count_of, reached_of, mark_at, parent_at, last_at, best_sum_at, span, kept, listed_at}
 use Rattle.definitions.specs.HeldModel.{lent_entry, is_reached, Holds}
 use Rattle.definitions.proofs.Laws.RunProofs.{runs_none, runs_length}
-use Rattle.definitions.specs.declared.Extraction.{Extraction}
-use Rattle.definitions.specs.declared.Extraction.TheVariants.{Column, Nothing}
 use Rattle.basics.specs.ListLaws.{every_snoc, count_same, count_some, count_full}
 use Rattle.heap_laws.specs.ModelCalls.{Activates}
 use Rattle.heap_laws.proofs.ModelCalls.{step_activate, step_extract}
@@ -45,18 +43,17 @@ use Rattle.heap_laws.specs.Bests.{SameSum}
 use Rattle.heap_laws.proofs.Bests.{activate_same, activate_lowers}
 use Rattle.logic.specs.Tests.{clash, split_at, Truth, holds, fails, truth, Order, less, more, order}
 use Rattle.engine.specs.Heap.WordLaws.{word_end, Word, length_span, span_same, head_mark, marks_then, PutLeaves}
-use Rattle.engine.specs.Heap.Clear.{rest, rest_len, left_of, right_of, count_after, Meets, Room, Cleared, cut_count, CutNeeds, CutLeaves}
+use Rattle.engine.specs.Heap.Clear.{rest, rest_len, CanReplace, left_of, right_of, count_after, Meets, Room, Cleared, clear_needs, cut_count, CutNeeds, CutLeaves}
 use Rattle.engine.specs.Heap.RowBest.{StretchFits, drawn, RowBest, best_moves}
 use Rattle.engine.specs.Heap.RowRuns.{open_sums, has_path, path_from, no_path_is, open_some, open_none, row_runs, some_run, full_run, RowReads, stretch_fits, PutRunsLeaves, runs_begin, runs_done}
 use Rattle.engine.specs.Heap.Laid.{In, Laid}
 use Rattle.engine.specs.Heap.Search.{reaches_first, WonAt, from_parent, as_first, LostAt, SearchLeaves}
 use Rattle.engine.specs.Heap.Reaching.{Counted, Reaches, ReachLeaves, reach_none, WinsAll, MarkAllLeaves, reach_all}
 use Rattle.engine.specs.Heap.Holds.{sound_of, run_at, within_cols, count_most, owned, sum_fits, Where, within, outside, where_is, bests_from_rows, laid, wins_is, first_won}
-use Rattle.engine.specs.declared.heap.Lowest.TheVariants as lowest
-use Rattle.engine.specs.declared.heap.Lowest.TheVariants.{At}
 use Rattle.engine.specs.declared.heap.Activated.{Activated}
+use Rattle.engine.specs.declared.heap.Rest.{Rest}
 use Rattle.engine.specs.declared.heap.Extracted.{Extracted}
-use Rattle.engine.specs.Heap.LeastColumn.{LeastLeaves, least_is_left}
+use Rattle.engine.specs.Heap.LeastColumn.{LeastIs, LeastLeaves, least_is_left}
 use Rattle.engine.specs.Heap.Cuts.{cut_lengths, clear_trims, clear_kept, cut_count_lem, cut_kept, cut_trims}
 
 -- the words u hold the model m' after m, and so many intervals are inserted and removed
@@ -149,6 +146,13 @@ pub record PutWonNeeds (w : List ℕ) (rows : List (List ℕ)) (col0 cols : ℕ)
   pub lasts : (k : ℕ) → k < count_of w → last_at w k < cols
   pub inside : end ≤ cols
   pub places : hi ≤ row_places
+
+-- so these intervals can give way to what is left of them, with so many of the row's own between
+pub won_can : {w : List ℕ} {rows : List (List ℕ)} {col0 cols : ℕ} {labels : List ℕ} {row lo hi first end : ℕ} (needs : PutWonNeeds w rows col0 cols labels row lo hi first end) (left right : Rest) (n : ℕ)
+    → left ≡ left_of w lo hi first → right ≡ right_of w lo hi end → n ≡ length (row_runs rows col0 labels row first end) → CanReplace w rows col0 labels lo hi left right n
+won_can needs left right n p q e =
+    clear_needs _ _ _ _ needs.laid (omega (arith, needs.reads.row_in_lem)) (omega (arith, needs.reads.columns)) _ _ _ _ needs.stretch left right n p q
+    (record { words = needs.room.words; room = omega (arith, e, needs.room.room); small = omega (arith, e, needs.room.small) })
 
 -- v is w with these columns cleared and the row's intervals from place mid on, so many
 pub record PutWonLeaves (w v : List ℕ) (rows : List (List ℕ)) (col0 : ℕ) (labels : List ℕ) (row lo hi first end : ℕ) (r : Activated) : Type 0 where
@@ -531,30 +535,43 @@ module _ (w : List ℕ) (rows : List (List ℕ)) (col0 cols : ℕ) (labels : Lis
 -- ---- an extraction
 
 -- one interval is removed where a column is handed out
-abbrev pub removed_by : Extraction → ℕ
-removed_by (Column c s) = 1
-removed_by Nothing = 0
+abbrev pub removed_by : Option (ℕ × ℕ) → ℕ
+removed_by (Some (c, s)) = 1
+removed_by None = 0
 
 -- p, one of so many rows, is the parent of the column that is handed out; 0 where there is none
-abbrev pub ParentIs : (ℕ → Best) → ℕ → Extraction → ℕ → Type 0
-ParentIs parents rows (Column c s) p = (place_in (parents c) ≡ p) × (p < rows)
-ParentIs parents rows Nothing p = p ≡ 0
+abbrev pub ParentIs : (ℕ → Best) → ℕ → Option (ℕ × ℕ) → ℕ → Type 0
+ParentIs parents rows (Some (c, s)) p = (place_in (parents c) ≡ p) × (p < rows)
+ParentIs parents rows None p = p ≡ 0
 
 -- the column found is extracted and answered
-pub record MinExtracted (u : List ℕ) (rows : List (List ℕ)) (col0 cols : ℕ) (labels : List ℕ) (m : Model) (answer : Extraction) (inserted parent : ℕ) : Type 0 where
+pub record MinExtracted (u : List ℕ) (rows : List (List ℕ)) (col0 cols : ℕ) (labels : List ℕ) (m : Model) (answer : Option (ℕ × ℕ)) (inserted parent : ℕ) : Type 0 where
   pub changed : Becomes u rows col0 cols labels m (extract m (least_from (available (lent_entry rows col0) m) 0 cols)) inserted (removed_by answer)
   pub answer_is : answer_of answer ≡ extraction_of (least_from (available (lent_entry rows col0) m) 0 cols)
   pub parent_is : ParentIs (available (lent_entry rows col0) m) (length rows) answer parent
 
-abbrev pub ExtractMinLeaves : List ℕ → List ℕ → List (List ℕ) → ℕ → List ℕ → Extracted → Type 0
+-- what the code answers: the column and its sum, how many intervals were inserted, and the column's parent
+abbrev pub told_of : Option Extracted → Option (ℕ × ℕ)
+told_of (Some x) = Some (x.column, x.sum)
+told_of None = None
+
+abbrev pub inserted_of : Option Extracted → ℕ
+inserted_of (Some x) = x.inserted
+inserted_of None = 0
+
+abbrev pub parent_of : Option Extracted → ℕ
+parent_of (Some x) = x.parent
+parent_of None = 0
+
+abbrev pub ExtractMinLeaves : List ℕ → List ℕ → List (List ℕ) → ℕ → List ℕ → Option Extracted → Type 0
 ExtractMinLeaves w u rows col0 labels r =
-    (cols : ℕ) (m : Model) → Holds w rows col0 cols labels m → MinExtracted u rows col0 cols labels m r.answer r.inserted r.parent
+    (cols : ℕ) (m : Model) → Holds w rows col0 cols labels m → MinExtracted u rows col0 cols labels m (told_of r) (inserted_of r) (parent_of r)
 
 module _ (w : List ℕ) (rows : List (List ℕ)) (col0 cols : ℕ) (labels : List ℕ) (m : Model) (h : Holds w rows col0 cols labels m) where
-  pub extracted_none : LeastLeaves w lowest.Nothing → MinExtracted w rows col0 cols labels m Nothing 0 0
+  pub extracted_none : LeastLeaves w None → MinExtracted w rows col0 cols labels m None 0 0
   unfolding extract
   extracted_none g =
-      let q : nobody ≡ least_from (available (lent_entry rows col0) m) 0 cols = least_is_left w rows col0 cols labels m h lowest.Nothing g in
+      let q : nobody ≡ least_from (available (lent_entry rows col0) m) 0 cols = least_is_left w rows col0 cols labels m h None g in
       record {
         changed = rw (← q) (becomes w w rows col0 cols labels m h m refl h.marked h.reached_are h.listed h.labels_at h.reached (laid w rows col0 cols labels m h).bests 0 0 (sym (count_new_same (intervals (lent_entry rows col0) cols m))) refl);
         answer_is = rw (← q);
@@ -590,12 +607,12 @@ module _ (w : List ℕ) (rows : List (List ℕ)) (col0 cols : ℕ) (labels : Lis
         small = omega (arith, few, h.checked.inside);
       }
 
-      pub extracted_some : LeastLeaves w (At k c s) → (u : List ℕ) (rests p : ℕ) → CutLeaves w u rows col0 labels k c rests → p ≡ parent_at w k
-          → MinExtracted u rows col0 cols labels m (Column c s) rests p
+      pub extracted_some : LeastIs w (record { place = k; column = c; sum = s }) → (u : List ℕ) (rests p : ℕ) → CutLeaves w u rows col0 labels k c rests → p ≡ parent_at w k
+          → MinExtracted u rows col0 cols labels m (Some (c, s)) rests p
       unfolding extract place_in
       extracted_some g u rests p x parent =
           let o = owned w rows col0 cols labels m h k c l i in
-          let q : by c s ≡ least_from (available (lent_entry rows col0) m) 0 cols = least_is_left w rows col0 cols labels m h (At k c s) g in
+          let q : by c s ≡ least_from (available (lent_entry rows col0) m) 0 cols = least_is_left w rows col0 cols labels m h (Some (record { place = k; column = c; sum = s })) g in
           let e = laid w rows col0 cols labels m h in
           let z : c + 1 ≡ suc c = omega arith in
           let listed : kept u ≡ intervals (lent_entry rows col0) cols (extract m (by c s)) = cut_kept w rows col0 labels e k c l i.0 i.1 u rests x ∙ sym gone in

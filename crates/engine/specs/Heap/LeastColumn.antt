@@ -1,10 +1,10 @@
 -- The lowest column of least sum, from the bests in the words.
 --   best_of                                what the code holds of it
 --   least_best LeastKeeps least-..         the least best of the first intervals
---   LeastLeaves                           of all of them
+--   LeastIs LeastLeaves                   of all of them
 --   least_is_left                         it is what the model's extraction finds
 --   found_inside                          and the column lies in its interval
-use Rattle.std.specs.Prelude.{◌≡◌, cond, List, map}
+use Rattle.std.specs.Prelude.{◌≡◌, cond, List, map, Option, Some, None}
 use Rattle.std.proofs.Math.Path.{refl, sym}
 use Rattle.std.proofs.Common.{ap, ◌∙◌, lt-ltb, le-ltb}
 use Prim.Native.Nat.{ℕ, zero, suc, ◌+◌, ◌-◌, ◌≤◌, ◌<◌}
@@ -18,12 +18,11 @@ use Rattle.definitions.specs.Model.{Model, available, least_left, best_in}
 use Rattle.heap_laws.proofs.Lesser.{lesser_assoc}
 use Rattle.heap_laws.proofs.Bests.{least_of_bests}
 use Rattle.engine.specs.declared.heap.Lowest.{Lowest}
-use Rattle.engine.specs.declared.heap.Lowest.TheVariants.{At, Nothing}
 use Rattle.engine.specs.Heap.Laid.{In}
 
-abbrev pub best_of : Lowest → Best
-best_of (At k c s) = by c s
-best_of Nothing = nobody
+abbrev pub best_of : Option Lowest → Best
+best_of (Some x) = by x.column x.sum
+best_of None = nobody
 
 -- ---- over the intervals
 
@@ -62,9 +61,13 @@ module _ (w : List ℕ) where
     least_stays l = record { inside = omega (arith, h.inside); sum_is = h.sum_is; is = one_more ∙ simp (le-ltb (best_sum_at w n) (best_sum_at w place) (omega (arith, h.sum_is))) }
 
   -- what is found of all intervals: their least best, and the place of the interval that has it
-  pub data LeastLeaves : Lowest → Type 0 where
-    none : count_of w ≡ 0 → LeastLeaves Nothing
-    found : (k : ℕ) → LeastKeeps (count_of w) k (best_sum_at w k) → LeastLeaves (At k (best_column_at w k) (best_sum_at w k))
+  pub record LeastIs (x : Lowest) : Type 0 where
+    pub keeps : LeastKeeps (count_of w) x.place x.sum
+    pub column_is : x.column ≡ best_column_at w x.place
+
+  abbrev pub LeastLeaves : Option Lowest → Type 0
+  LeastLeaves None = count_of w ≡ 0
+  LeastLeaves (Some x) = LeastIs x
 
 -- ---- the model's
 
@@ -75,16 +78,17 @@ module _ (w : List ℕ) (rows : List (List ℕ)) (col0 cols : ℕ) (labels : Lis
   bests_are i zero l = refl
   bests_are i (suc n) l = rw (h.bests i (omega arith), bests_are (suc i) n (omega arith))
 
-  pub least_is_left : (b : Lowest) → LeastLeaves w b → best_of b ≡ least_left (lent_entry rows col0) cols m
+  pub least_is_left : (b : Option Lowest) → LeastLeaves w b → best_of b ≡ least_left (lent_entry rows col0) cols m
   unfolding kept least_best
   least_is_left b g = go b g ∙ bests_are 0 (count_of w) (omega arith) ∙ rw h.listed (least_of_bests (lent_entry rows col0) cols m)
     where
-      go : (b : Lowest) → LeastLeaves w b → best_of b ≡ least_best w 0 (count_of w)
-      go _ (none z) = rw z
-      go _ (found k x) = sym x.is
+      go : (b : Option Lowest) → LeastLeaves w b → best_of b ≡ least_best w 0 (count_of w)
+      go None z = rw z
+      go (Some b) x = rw (x.column_is, x.keeps.sum_is) (sym x.keeps.is)
 
-  pub found_inside : (k c s : ℕ) → LeastLeaves w (At k c s) → (k < count_of w) × In w k c
+  pub found_inside : (b : Lowest) → LeastIs w b → (b.place < count_of w) × In w b.place b.column
   unfolding interval_at
-  found_inside k c s (found _ x) =
-      let f = least_lowest (available (lent_entry rows col0) m) (first_at w k) (suc (last_at w k) - first_at w k) c s (sym (h.bests k x.inside)) in
-      (x.inside, (f.low, omega (arith, f.low, f.high)))
+  found_inside b x =
+      let k = b.place in
+      let f = least_lowest (available (lent_entry rows col0) m) (first_at w k) (suc (last_at w k) - first_at w k) _ _ (sym (h.bests k x.keeps.inside)) in
+      rw x.column_is (x.keeps.inside, (f.low, omega (arith, f.low, f.high)))

@@ -4,7 +4,8 @@
 --   Marks marks_same marks_then               words that agree in what columns are reached
 --   Outside                                   words that agree but for some intervals
 --   interval_same numbers-.. head_set head_mark    an interval is read from its own words, which are its numbers
---   told PutLeaves put_done                   one interval is written
+--   IntervalAt told told_is                   one interval is read
+--   PutLeaves put_done                        one is written
 --   ShiftLeaves ShiftKeeps moving-.. shifted  intervals are moved to other places, one by one
 use Rattle.std.specs.Prelude.{◌≡◌, refl, List, ◌++◌, ◌⊎◌, ◌≢◌, ℕ, zero, suc, ◌+◌, ◌-◌, ◌≤◌, ◌<◌, length, get_or, set}
 use Rattle.std.proofs.Common.{ap, ◌∙◌, inl, inr, ⊎_elim, zero-add, add-zero, arith, get_or-set_other}
@@ -85,6 +86,18 @@ pub record PutLeaves (w u : List ℕ) (i : ℕ) (v : Listed) : Type 0 where
 -- what the program's struct says
 abbrev pub told : declared.Interval → Listed
 told v = record { interval = interval v.parent v.first v.last; best = by v.best_column v.best_sum }
+
+-- r is the interval at place k
+pub record IntervalAt (w : List ℕ) (k : ℕ) (r : declared.Interval) : Type 0 where
+  pub parent_is : r.parent ≡ parent_at w k
+  pub first_is : r.first ≡ first_at w k
+  pub last_is : r.last ≡ last_at w k
+  pub best_column_is : r.best_column ≡ best_column_at w k
+  pub best_sum_is : r.best_sum ≡ best_sum_at w k
+
+pub told_is : (w : List ℕ) (k : ℕ) (r : declared.Interval) → IntervalAt w k r → told r ≡ listed_at w k
+unfolding interval_at
+told_is w k r h = rw (h.parent_is, h.first_is, h.last_is, h.best_column_is, h.best_sum_is)
 
 -- an interval is read from its words alone
 pub interval_same : (u w : List ℕ) (j k : ℕ) → ((i : ℕ) → i < interval_words → get_or u (interval_start j + i) 0 ≡ get_or w (interval_start k + i) 0) → listed_at u j ≡ listed_at w k

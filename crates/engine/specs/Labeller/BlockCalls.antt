@@ -5,15 +5,13 @@
 --   number_in block_same                     the blocks of the states
 --   can_activate found_is_least              what the lent parts of a block allow, and what is found in them
 --   extracted activated                      what a call leaves
-use Rattle.std.specs.Prelude.{◌≡◌, refl, cond, List, ℕ, ◌+◌, ◌-◌, ◌<◌, min, get_or, set, take, drop}
+use Rattle.std.specs.Prelude.{◌≡◌, refl, cond, List, ℕ, ◌+◌, ◌-◌, ◌<◌, min, get_or, set, take, drop, Option, Some, None}
 use Rattle.std.proofs.Common.{sym, ◌∙◌, subst, arith}
 use Rattle.std.proofs.Math.Path.{ap}
 use Rattle.std.proofs.Math.ListN.{length, get_or-map}
 use Rattle.std.proofs.lemmas.List.{length-map}
 use Rattle.std.proofs.Math.Seq.{get_or-take, get_or-drop, get_or-set_same, get_or-set_other, map-set_same}
 use Rattle.definitions.specs.HeldModel.{lent_entry, Holds}
-use Rattle.definitions.specs.declared.Extraction.{Extraction}
-use Rattle.definitions.specs.declared.Extraction.TheVariants.{Column, Nothing}
 use Rattle.definitions.specs.Limits.{below}
 use Rattle.definitions.specs.Network.{Rectangle}
 use Rattle.definitions.specs.Blocks.{Block, no_block}
@@ -28,15 +26,14 @@ use Rattle.heap_laws.specs.ModelCalls.{Activates, Cases, activates, extracts, re
 use Rattle.heap_laws.proofs.ModelCalls.{cases, step_activate, step_extract}
 use Rattle.heap_laws.proofs.Agree.{available_agree, least_from_agree, extend_agree}
 use Rattle.preparation.specs.Prepared.{row_in, col_in, cols_in, row_count_in}
-use Rattle.engine.specs.declared.heap.Lowest as code
+use Rattle.engine.specs.declared.heap.Lowest.{Lowest}
 use Rattle.engine.specs.declared.heap.Activated.{Activated}
-use Rattle.engine.specs.declared.blocks.Numbers.{Numbers}
 use Rattle.engine.specs.Heap.Holds.{sound_of}
 use Rattle.engine.specs.Heap.LeastColumn.{LeastLeaves, best_of, least_is_left}
 use Rattle.engine.specs.Heap.HeapCalls.{Becomes, ActivateGiven, Falls, RowActivated, removed_by, ParentIs, MinExtracted}
 use Rattle.engine.specs.Tree.TreeWords.{leaves, Key, key_at, IsTournament, KeyChanged}
-use Rattle.engine.specs.Labeller.State.{Heaps, with_words, heap_in, window_in, labels_in, label_at, numbers_in, BlockLies, HoldsBlock, HoldsBlocks, bests, call_at, CallDone, ExtractionDone, HeapActivated}
-use Rattle.engine.specs.Labeller.LentHeaps.{replaced, window_long, lent_heap, lent_rows_lem, lent_labels_lem, back_here, back_other, back_long}
+use Rattle.engine.specs.Labeller.State.{Heaps, with_words, heap_in, window_in, labels_in, label_at, WordsAre, BlockLeaves, BlockLies, HoldsBlock, HoldsBlocks, bests, call_at, CallDone, ExtractionDone, HeapActivated}
+use Rattle.engine.specs.Labeller.LentHeaps.{replaced, window_long, lent_heap, back_here, back_other, back_long}
 
 -- an activation that is not refused
 pub accepted_is : (rows : ℕ) (m : Model) (r v : ℕ) → judge rows m (activation r v) ≡ 0 → Activates rows m (activation r v)
@@ -48,7 +45,7 @@ accepted_is rows m r v h = go (cases rows m (activation r v))
     go (refuses n) = absurd (n h)
 
 -- a column that an extraction hands out is one of those that it looks at
-answered_in : (w : ℕ → Best) (cols c s : ℕ) → answer_of (Column c s) ≡ extraction_of (least_from w 0 cols) → c < cols
+answered_in : (w : ℕ → Best) (cols c s : ℕ) → answer_of (Some (c, s)) ≡ extraction_of (least_from w 0 cols) → c < cols
 answered_in w cols c s a = go (least_from w 0 cols) refl
   where
     go : (x : Best) → least_from w 0 cols ≡ x → c < cols
@@ -156,10 +153,10 @@ module _ {h : Heaps} {bs : List Block} {ss : List BlockState} (held : HoldsBlock
     least_is = least_with model (sound_of (held.each b l))
 
     -- the parent of the column that is handed out
-    parent_same : (answer : Extraction) (p : ℕ) → answer_of answer ≡ extraction_of (least_from (available e model) 0 cols) → ParentIs (available e model) (length window) answer p
+    parent_same : (answer : Option (ℕ × ℕ)) (p : ℕ) → answer_of answer ≡ extraction_of (least_from (available e model) 0 cols) → ParentIs (available e model) (length window) answer p
         → ParentIs (available state.block.lengths model) (length state.block.rows) answer p
-    parent_same Nothing p a h = h
-    parent_same (Column c s) p a h =
+    parent_same None p a h = h
+    parent_same (Some (c, s)) p a h =
         let low = answered_in (available e model) cols c s a in
         (rw (← available_agree e state.block.lengths (length window) cols same model (sound_of (held.each b l)).in_rows c low) h.0, omega (arith, h.1, tall))
 
@@ -170,52 +167,47 @@ module _ {h : Heaps} {bs : List Block} {ss : List BlockState} (held : HoldsBlock
         get_or-take (row_count_in h.tables.numbers b) (drop (row_in h.tables.numbers b) h.row_labels) r 0 (omega (arith, window_rows_lem))
         ∙ get_or-drop (row_in h.tables.numbers b) h.row_labels r 0
 
-    -- the parts that are lent: those of the block's numbers
-    module _ (x : Numbers) (is : x ≡ numbers_in h.tables.numbers b) where
+    -- the words that are lent, and what else the heap reads
+    module _ (a e' : ℕ) (is : WordsAre h.tables.numbers b a e') where
       abbrev lent_words : List ℕ
-      lent_words = take (x.end - x.slot) (drop x.slot h.words)
+      lent_words = take (e' - a) (drop a h.words)
 
-      abbrev lent_rows : List (List ℕ)
-      lent_rows = take (x.bottom - x.top) (drop x.top h.tables.matrix)
-
-      abbrev lent_labels : List ℕ
-      lent_labels = take (x.bottom - x.top) (drop x.top h.row_labels)
-
-      pub can_activate : (r : ℕ) → judge (length state.block.rows) model (activation r (label r)) ≡ 0 → ActivateGiven lent_words lent_rows x.col0 x.cols lent_labels r model
-      can_activate r ok =
-          let a = accepted_is (length state.block.rows) model r (label r) ok in
-          let m : r < length window = omega (arith, a.row_in_lem, tall) in
-          rw (lent_heap held b l x is, lent_rows_lem held b l x is, lent_labels_lem held b l x is, is) (record {
+      pub can_activate : {lent_rows : List (List ℕ)} {c0 cs : ℕ} {lent_labels : List ℕ} → BlockLeaves h.tables h.row_labels b lent_rows c0 cs lent_labels
+          → (r : ℕ) → judge (length state.block.rows) model (activation r (label r)) ≡ 0 → ActivateGiven lent_words lent_rows c0 cs lent_labels r model
+      can_activate k r ok =
+          let y = accepted_is (length state.block.rows) model r (label r) ok in
+          let m : r < length window = omega (arith, y.row_in_lem, tall) in
+          rw (lent_heap held b l a e' is, k.rows_are, k.labels_are, k.col0_is, k.cols_is) (record {
             held = held.each b l;
             row_in_lem = m;
-            row_new = a.row_new;
-            high = rw (label_is r m) a.high;
-            limited = rw (label_is r m) a.limited;
+            row_new = y.row_new;
+            high = rw (label_is r m) y.high;
+            limited = rw (label_is r m) y.limited;
           })
 
       -- the key of what is found
-      pub found_is_least : (found : code.Lowest) → LeastLeaves lent_words found → best_of found ≡ bests ss b
+      pub found_is_least : (found : Option Lowest) → LeastLeaves lent_words found → best_of found ≡ bests ss b
       found_is_least found t =
-          let g : LeastLeaves (heap_in h.tables h.words b) found = rw (lent_heap held b l x is) at t in
+          let g : LeastLeaves (heap_in h.tables h.words b) found = rw (lent_heap held b l a e' is) at t in
           least_is_left (heap_in h.tables h.words b) window col0 cols labels model (held.each b l) found g ∙ sym least_is
 
       -- the words with the block's part changed
-      module _ (part : List ℕ) (lent : length part ≡ length (take (x.end - x.slot) (drop x.slot h.words))) where
+      module _ (part : List ℕ) (lent : length part ≡ length (take (e' - a) (drop a h.words))) where
         abbrev after : Heaps
-        after = with_words h (replaced x.slot x.end h.words part)
+        after = with_words h (replaced a e' h.words part)
 
         held_after : (k : Call) → Holds part window col0 cols labels (apply state k).trace.model → HoldsBlocks after bs (call_at ss b k)
         held_after k g = record {
           parted = held.parted;
           blocks_are = map-set_same (λ (s : BlockState). s.block) ss b (apply state k) no_block_state (unfold apply in refl) ∙ held.blocks_are;
-          words_are = back_long held b l x is part lent ∙ held.words_are;
+          words_are = back_long held b l a e' is part lent ∙ held.words_are;
           labels_are = held.labels_are;
           each = λ c r. go c r (equality c b);
         }
           where
             go : (c : ℕ) → c < length bs → Equal c b → HoldsBlock after c (get_or (call_at ss b k) c no_block_state)
-            go c r (equal _ q) = rw (q, back_here held b l x is part lent, get_or-set_same ss b (apply state k) no_block_state (omega (arith, count_is))) g
-            go c r (differ _ n) = rw (back_other held b l x is part lent c r n, get_or-set_other ss b c (apply state k) no_block_state n) (held.each c r)
+            go c r (equal _ q) = rw (q, back_here held b l a e' is part lent, get_or-set_same ss b (apply state k) no_block_state (omega (arith, count_is))) g
+            go c r (differ _ n) = rw (back_other held b l a e' is part lent c r n, get_or-set_other ss b c (apply state k) no_block_state n) (held.each c r)
 
         -- its least sum afterwards
         least_after : (k : Call) (m : Model) → (apply state k).trace.model ≡ m → Sound e (length window) cols m → bests (call_at ss b k) b ≡ least_from (available e m) 0 cols
@@ -232,11 +224,12 @@ module _ {h : Heaps} {bs : List Block} {ss : List BlockState} (held : HoldsBlock
               ∙ rw (sym (ap (λ (t : Trace). t.model) (call_is k)) ∙ q) (ap (λ (n : ℕ). state.trace.inserted + n) (sym g.inserted_is));
         }
 
-        pub extracted : (answer : Extraction) (inserted parent : ℕ) → MinExtracted part lent_rows x.col0 x.cols lent_labels model answer inserted parent
+        pub extracted : {lent_rows : List (List ℕ)} {c0 cs : ℕ} {lent_labels : List ℕ} → BlockLeaves h.tables h.row_labels b lent_rows c0 cs lent_labels
+            → (answer : Option (ℕ × ℕ)) (inserted parent : ℕ) → MinExtracted part lent_rows c0 cs lent_labels model answer inserted parent
             → ExtractionDone (HoldsBlocks after bs) ss b answer inserted parent
         unfolding extend
-        extracted answer inserted parent t =
-            let g : MinExtracted part window col0 cols labels model answer inserted parent = rw (lent_rows_lem held b l x is, lent_labels_lem held b l x is, is) at t in
+        extracted x answer inserted parent t =
+            let g : MinExtracted part window col0 cols labels model answer inserted parent = rw (x.rows_are, x.labels_are, x.col0_is, x.cols_is) at t in
             record {
               called = called extraction (extract model (least_from (available e model) 0 cols)) inserted (removed_by answer)
                   (ap (λ (t : Trace). t.model) (call_is extraction) ∙ rw (step_extract e (length window) cols model extraction refl)) g.changed;
@@ -244,13 +237,14 @@ module _ {h : Heaps} {bs : List Block} {ss : List BlockState} (held : HoldsBlock
               parent_is = parent_same answer parent g.answer_is g.parent_is;
             }
 
-        pub activated : (r : ℕ) (y : Activated) → judge (length state.block.rows) model (activation r (label r)) ≡ 0
-            → RowActivated part lent_rows x.col0 x.cols lent_labels model (activate model r (get_or lent_labels r 0)) y
+        pub activated : {lent_rows : List (List ℕ)} {c0 cs : ℕ} {lent_labels : List ℕ} → BlockLeaves h.tables h.row_labels b lent_rows c0 cs lent_labels
+            → (r : ℕ) (y : Activated) → judge (length state.block.rows) model (activation r (label r)) ≡ 0
+            → RowActivated part lent_rows c0 cs lent_labels model (activate model r (get_or lent_labels r 0)) y
             → HeapActivated after bs ss b (activation r (label r)) y
         unfolding extend
-        activated r y ok t =
+        activated x r y ok t =
             let k = activation r (label r) in
-            let g : RowActivated part window col0 cols labels model (activate model r (get_or labels r 0)) y = rw (lent_rows_lem held b l x is, lent_labels_lem held b l x is, is) at t in
+            let g : RowActivated part window col0 cols labels model (activate model r (get_or labels r 0)) y = rw (x.rows_are, x.labels_are, x.col0_is, x.cols_is) at t in
             let a : Activates (length window) model k = rw tall (accepted_is (length state.block.rows) model r (label r) ok) in
             let f : RowActivated part window col0 cols labels model (activate model r (label r)) y = rw (label_is r (omega (arith, a.row_in_lem))) at g in
             let m : (apply state k).trace.model ≡ activate model r (label r) = ap (λ (t : Trace). t.model) (call_is k) ∙ rw (step_activate e (length window) cols model k a) in

@@ -1,5 +1,5 @@
 -- The entry of the labelling: its judgement, and what is prepared for the loop where nothing is refused.
---   judged_labels judged_network judged_source    the judgement, cause by cause
+--   judged_network judged_source                  the judgement, cause by cause
 --   lengths_are may_begin can_label               what is prepared for an accepted network
 --   refused labelled                              what the entry returns and leaves
 --   LabelArcsLeaves arcs-.. labels_alone          the same where the arcs are kept too; without them
@@ -9,7 +9,6 @@ use Rattle.std.proofs.Math.Path.{refl, ap}
 use Rattle.std.proofs.Common.{sym, ◌∙◌, ⊎_elim, arith}
 use borrow.Author.Tests.{eq-eqb, ne_eqb, eqb-true}
 use Rattle.std.proofs.Math.ListN.{replicate}
-use Rattle.std.proofs.lemmas.List.{length-replicate}
 use Rattle.definitions.specs.declared.LabelAnswer.{LabelAnswer}
 use Rattle.definitions.specs.Entries.{judge_lent, has_places, judge_buffers, AfterLabel, judge_labelling, label_answer, label_refusal, label_network}
 use Rattle.definitions.specs.PlainPromises.{PlainLabels}
@@ -19,7 +18,7 @@ use Rattle.definitions.specs.Network.{Piece}
 use Rattle.definitions.specs.Blocks.{blocks}
 use Rattle.definitions.specs.Labelling.{labelling, labels}
 use Rattle.definitions.specs.Judgement.{judge_bounds, judge_source, judge_piece, piece_at, pieces_of, judge_from, judge_network}
-use Rattle.definitions.proofs.Laws.Causes.{passed, no_cause, test_holds, bounds_in}
+use Rattle.definitions.proofs.Laws.CauseLaws.{passed, no_cause, test_holds, bounds_in}
 use Rattle.basics.specs.Buffers.{buffers_are}
 use Rattle.logic.specs.Tests.{split_at, Equal, equal, differ, equality}
 use Rattle.preparation.specs.BlockIndex.{no_index, filled_blocks}
@@ -32,6 +31,8 @@ use Rattle.labelling_laws.proofs.PieceBlocks.{setting}
 use Rattle.labelling_laws.proofs.LentNetworks.{lent_accepted}
 use Rattle.labelling_laws.proofs.LabellingTheorems as theorems
 use Rattle.labelling_laws.proofs.LabellingTheorems.{labels_are_distances, held_limited, reached_counts, few_extractions, few_insertions}
+use Rattle.engine.specs.declared.blocks.Tables.{Tables}
+use Rattle.engine.specs.declared.blocks.BlockHeaps.{BlockHeaps}
 use Rattle.engine.specs.Tree.TreeWords.{tree_words, idle}
 use Rattle.engine.specs.Labeller.Begins.{tables_for, prepared, fresh_arrays, begins}
 use Rattle.engine.specs.Labeller.Mapped.{traced, mapped}
@@ -60,23 +61,20 @@ two_pass x y z h = go (equality x 0) (equality y 0) (equality z 0)
     go (equal t q) (equal u r) (equal w s) = rw (t, u, w) (sym s)
     go (equal t q) (equal u r) (differ w s) = rw (t, u, w)
 
-module _ (n p : ℕ) (sizes vertices lengths : List ℕ) (source : ℕ) (buffer : List ℕ) where
-  pub judged_labels : length buffer ≢ label_places → judge_labelling n p sizes vertices lengths source buffer ≡ 1
-  unfolding judge_labelling has_places first_cause
-  judged_labels h = simp (ne_eqb (length buffer) label_places h)
+-- the buffer of the labels has its size
+module _ (n p : ℕ) (sizes vertices lengths : List ℕ) (source : ℕ) (buffer : List ℕ) (full : ◌≡◌ {A = ℕ} 0 (cond (has_places label_places buffer) 0 1)) where
+  judged_is : judge_labelling n p sizes vertices lengths source buffer
+      ≡ first_cause (judge_buffers (length sizes) (length vertices) (length lengths) ∷ judge_network n p sizes vertices lengths ∷ judge_source n source ∷ [])
+  unfolding judge_labelling
+  judged_is = passed (cond (has_places label_places buffer) 0 1) _ (sym full)
 
-  module _ (full : length buffer ≡ label_places) where
-    judged_is : judge_labelling n p sizes vertices lengths source buffer ≡ first_cause (judge_buffers (length sizes) (length vertices) (length lengths) ∷ judge_network n p sizes vertices lengths ∷ judge_source n source ∷ [])
-    unfolding judge_labelling has_places
-    judged_is = simp (eq-eqb (length buffer) label_places full) (passed 0 _ refl)
+  pub judged_network : (k : ℕ) → k ≢ 0 → k ≡ judge_lent n p sizes vertices lengths → k ≡ judge_labelling n p sizes vertices lengths source buffer
+  unfolding judge_lent
+  judged_network k h e = sym (judged_is ∙ two_refuse _ _ _ (λ z. h (e ∙ z)) ∙ sym e)
 
-    pub judged_network : judge_lent n p sizes vertices lengths ≢ 0 → judge_labelling n p sizes vertices lengths source buffer ≡ judge_lent n p sizes vertices lengths
-    unfolding judge_lent
-    judged_network h = judged_is ∙ two_refuse _ _ _ h
-
-    pub judged_source : judge_lent n p sizes vertices lengths ≡ 0 → judge_labelling n p sizes vertices lengths source buffer ≡ judge_source n source
-    unfolding judge_lent
-    judged_source h = judged_is ∙ two_pass _ _ _ h
+  pub judged_source : 0 ≡ judge_lent n p sizes vertices lengths → (k : ℕ) → k ≡ judge_source n source → k ≡ judge_labelling n p sizes vertices lengths source buffer
+  unfolding judge_lent
+  judged_source h k e = sym (judged_is ∙ two_pass _ _ _ (sym h) ∙ sym e)
 
 -- ---- an accepted network
 
@@ -132,19 +130,24 @@ module _ (n p : ℕ) (sizes vertices lengths : List ℕ) (source : ℕ) (buffer 
   }
 
   -- as the code has them
-  module _ (matrix lent index : List (List ℕ)) (numbers zeros words cleared arcs : List ℕ) (long : ℕ) (rows : length lent ≡ vertex_places) (places : length zeros ≡ table_count)
+  module _ (matrix lent index : List (List ℕ)) (numbers zeros cleared arcs : List ℕ) (long : ℕ) (rows : length lent ≡ vertex_places) (places : length zeros ≡ table_count)
       (a : matrix ≡ filled_matrix lent lengths) (b : numbers ≡ filled_tables zeros p sizes vertices) (g : index ≡ filled_blocks no_index matrix numbers)
-      (f : words ≡ replicate (length {A = ℕ} (replicate max_words 0)) 0) (e : cleared ≡ replicate (length buffer) unreached)
+      (e : cleared ≡ replicate (length buffer) unreached)
       (all : long ≡ label_places) (z : arcs ≡ replicate long 0) where
-    pub may_begin : LabelAllGiven (lent_arc vertices lengths) (store matrix index numbers (replicate vertex_places 0) words (replicate tree_words idle) cleared arcs) source n qs
+    abbrev tables_now : Tables
+    tables_now = record { matrix = matrix; index = index; numbers = numbers }
+
+    abbrev fresh_heaps : BlockHeaps
+    fresh_heaps = record { words = replicate max_words 0; tree = record { keys = replicate tree_words idle } }
+
+    pub may_begin : LabelAllGiven (lent_arc vertices lengths) (store tables_now (replicate vertex_places 0) fresh_heaps cleared arcs) source n qs
     unfolding filled_matrix filled_tables
     may_begin =
         let m : matrix ≡ matrix_of lengths = a ∙ simp (eq-eqb (length lent) vertex_places rows, eq-eqb (length lengths) length_places lengths_are) in
         let t : numbers ≡ tables_of p sizes vertices = b ∙ simp (eq-eqb (length zeros) table_count places) in
-        let fresh : words ≡ replicate max_words 0 = f ∙ ap (λ (k : ℕ). replicate k 0) (length-replicate {A = ℕ} max_words 0) in
-        rw (g, m, t, fresh, e, buffers.3, z, all) given
+        rw (g, m, t, e, buffers.3, z, all) given
 
-    pub can_label : LabelAllNeeds (store matrix index numbers (replicate vertex_places 0) words (replicate tree_words idle) cleared arcs) source
+    pub can_label : LabelAllNeeds (store tables_now (replicate vertex_places 0) fresh_heaps cleared arcs) source
     can_label = record { arcs_by = lent_arc vertices lengths; n = n; pieces = qs; given = may_begin }
 
 -- ---- what the entry returns and leaves

@@ -1,24 +1,24 @@
 -- The heap of one block is lent out of the words of all heaps, and comes back.
 --   replaced                                    the words with a part of them changed
 --   heap_long window_long labels_long           how long the parts of a block are
---   Bounds bounds                               the block's numbers lie within the arrays
---   lent_heap lent_rows_lem lent_index lent_indexed lent_labels_lem lent_holds    the lent parts are the block's
+--   rows_within block_left block_indexed        what a heap reads of its block
+--   block_needs words_within lent_heap lent_holds    the words that are lent are the block's
 --   back_here back_other back_long              the words afterwards: the block's, another block's, how many
-use Rattle.std.specs.Prelude.{◌≡◌, ◌⊎◌, ◌≢◌, List, ◌++◌, ℕ, ◌+◌, ◌-◌, ◌≤◌, ◌<◌, get_or, length, take, drop}
+use Rattle.std.specs.Prelude.{◌≡◌, refl, ◌⊎◌, ◌≢◌, List, ◌++◌, ℕ, ◌+◌, ◌-◌, ◌*◌, ◌≤◌, ◌<◌, get_or, length, take, drop}
 use Rattle.std.proofs.Common.{sym, ap, ◌∙◌, inl, inr, take_at, drop_at, take-take, drop-drop, take-add}
 use native.Mathlib.Omega.{arith}
 use borrow.Rule.Slice.PartMut.{same_len_mid, mid_len, take_put, drop_put}
 use Rattle.std.proofs.Math.ListN.{length-drop}
 use Rattle.std.proofs.Math.Seq.{length-take-le}
 use Rattle.definitions.specs.Limits.{vertex_places}
-use Rattle.definitions.specs.Blocks.{Block}
+use Rattle.definitions.specs.Blocks.{Block, no_block}
 use Rattle.definitions.specs.Labelling.{BlockState, no_block_state}
 use Rattle.definitions.specs.HeapWords.{heap_words}
 use Rattle.definitions.specs.HeldModel.{Holds}
-use Rattle.preparation.specs.Prepared.{slot_in, row_in, cols_in, row_count_in, max_words}
-use Rattle.engine.specs.declared.blocks.Numbers.{Numbers}
+use Rattle.preparation.specs.Prepared.{slot_in, row_in, col_in, cols_in, row_count_in, part_numbers, max_words}
 use Rattle.engine.specs.Heap.RowBest.{HasIndex}
-use Rattle.engine.specs.Labeller.State.{Tables, Heaps, heap_in, window_in, index_in, labels_in, numbers_in, HoldsBlocks}
+use Rattle.engine.specs.declared.blocks.Tables.{Tables}
+use Rattle.engine.specs.Labeller.State.{Heaps, heap_in, window_in, index_in, labels_in, WordsAre, BlockLies, BlockNeeds, BlockLeaves, HoldsBlocks}
 
 -- ---- a part of a list
 
@@ -68,71 +68,63 @@ module _ (t : Tables) (b : ℕ) where
   unfolding labels_in
   labels_long row_labels l = length-take-le (row_count_in t.numbers b) (drop (row_in t.numbers b) row_labels) (rw length-drop (omega arith))
 
--- the block's numbers lie within the arrays
-pub record Bounds (h : Heaps) (x : Numbers) : Type 0 where
-  pub words_rise : x.slot ≤ x.end
-  pub words_in : x.end ≤ length h.words
-  pub words_are : length h.words ≡ max_words
-  pub rows_rise : x.top ≤ x.bottom
-  pub rows_in : x.bottom ≤ length h.tables.matrix
-  pub rows_are : length h.tables.matrix ≡ vertex_places
-  pub index_are : length h.tables.index ≡ vertex_places
-  pub labels_are : length h.row_labels ≡ vertex_places
+-- ---- what a heap reads of its block
 
-module _ {h : Heaps} {bs : List Block} {ss : List BlockState} (held : HoldsBlocks h bs ss) (b : ℕ) (l : b < length bs) (x : Numbers) (is : x ≡ numbers_in h.tables.numbers b) where
+module _ {t : Tables} {row_labels : List ℕ} {b : ℕ} (needs : BlockNeeds t row_labels b) where
+  abbrev lies : BlockLies t b (get_or needs.blocks b no_block)
+  lies = needs.parted.lies b needs.block_in
+
+  -- its rows lie within the arrays
+  pub rows_within : (part_numbers * b + part_numbers ≤ length t.numbers) × (row_in t.numbers b + row_count_in t.numbers b ≤ vertex_places)
+      × (length t.matrix ≡ vertex_places) × (length t.index ≡ vertex_places) × (length row_labels ≡ vertex_places)
+  rows_within = (omega (arith, needs.parted.numbered, needs.block_in), lies.rows_in, needs.parted.rows_are, needs.parted.index_are, needs.labels_are)
+
+  count : row_in t.numbers b + row_count_in t.numbers b - row_in t.numbers b ≡ row_count_in t.numbers b
+  count = omega arith
+
+  pub block_left : BlockLeaves t row_labels b (take (row_in t.numbers b + row_count_in t.numbers b - row_in t.numbers b) (drop (row_in t.numbers b) t.matrix)) (col_in t.numbers b)
+      (cols_in t.numbers b) (take (row_in t.numbers b + row_count_in t.numbers b - row_in t.numbers b) (drop (row_in t.numbers b) row_labels))
+  unfolding window_in labels_in
+  block_left = record { rows_are = rw count; col0_is = refl; cols_is = refl; labels_are = rw count }
+
+  pub block_indexed : HasIndex (take (row_in t.numbers b + row_count_in t.numbers b - row_in t.numbers b) (drop (row_in t.numbers b) t.index))
+      (take (row_in t.numbers b + row_count_in t.numbers b - row_in t.numbers b) (drop (row_in t.numbers b) t.matrix)) (col_in t.numbers b) (cols_in t.numbers b)
+  block_indexed = rw count (unfold window_in in unfold index_in in (record { inside = lies.checked.inside; indexed = lies.indexed }))
+
+-- ---- the words of its heap
+
+module _ {h : Heaps} {bs : List Block} {ss : List BlockState} (held : HoldsBlocks h bs ss) (b : ℕ) (l : b < length bs) where
   abbrev numbers : List ℕ
   numbers = h.tables.numbers
 
-  pub bounds : Bounds h x
-  bounds =
-      let g = held.parted.lies b l in
-      rw is (record {
-        words_rise = omega arith;
-        words_in = omega (arith, g.words_in, held.words_are);
-        words_are = held.words_are;
-        rows_rise = omega arith;
-        rows_in = omega (arith, g.rows_in, held.parted.rows_are);
-        rows_are = held.parted.rows_are;
-        index_are = held.parted.index_are;
-        labels_are = held.labels_are;
-      })
+  pub block_needs : BlockNeeds h.tables h.row_labels b
+  block_needs = record { blocks = bs; parted = held.parted; block_in = l; labels_are = held.labels_are }
 
-  pub lent_heap : take (x.end - x.slot) (drop x.slot h.words) ≡ heap_in h.tables h.words b
-  unfolding heap_in
-  lent_heap = let z : slot_in numbers b + heap_words (cols_in numbers b) - slot_in numbers b ≡ heap_words (cols_in numbers b) = omega arith in rw (is, z)
+  module _ (a e : ℕ) (is : WordsAre h.tables.numbers b a e) where
+    -- they lie within the words
+    pub words_within : (a ≤ e) × (e ≤ length h.words) × (length h.words ≡ max_words)
+    words_within = let g = held.parted.lies b l in (omega (arith, is.begin, is.end), omega (arith, is.end, g.words_in, held.words_are), held.words_are)
 
-  pub lent_rows_lem : take (x.bottom - x.top) (drop x.top h.tables.matrix) ≡ window_in h.tables b
-  unfolding window_in
-  lent_rows_lem = let z : row_in numbers b + row_count_in numbers b - row_in numbers b ≡ row_count_in numbers b = omega arith in rw (is, z)
-
-  pub lent_index : take (x.bottom - x.top) (drop x.top h.tables.index) ≡ index_in h.tables b
-  unfolding index_in
-  lent_index = let z : row_in numbers b + row_count_in numbers b - row_in numbers b ≡ row_count_in numbers b = omega arith in rw (is, z)
-
-  pub lent_indexed : HasIndex (take (x.bottom - x.top) (drop x.top h.tables.index)) (take (x.bottom - x.top) (drop x.top h.tables.matrix)) x.col0 x.cols
-  lent_indexed = let g = held.parted.lies b l in rw (lent_index, lent_rows_lem, is) (record { inside = g.checked.inside; indexed = g.indexed })
-
-  pub lent_labels_lem : take (x.bottom - x.top) (drop x.top h.row_labels) ≡ labels_in h.tables h.row_labels b
-  unfolding labels_in
-  lent_labels_lem = let z : row_in numbers b + row_count_in numbers b - row_in numbers b ≡ row_count_in numbers b = omega arith in rw (is, z)
-
-  pub lent_holds : Holds (take (x.end - x.slot) (drop x.slot h.words)) (take (x.bottom - x.top) (drop x.top h.tables.matrix)) x.col0 x.cols
-      (take (x.bottom - x.top) (drop x.top h.row_labels)) (get_or ss b no_block_state).trace.model
-  lent_holds = rw (lent_heap, lent_rows_lem, lent_labels_lem, is) (held.each b l)
-
-  -- the part is back
-  module _ (part : List ℕ) (lent : length part ≡ length (take (x.end - x.slot) (drop x.slot h.words))) where
-    pub back_long : length (replaced x.slot x.end h.words part) ≡ length h.words
-    back_long = kept_long x.slot x.end h.words part bounds.words_rise bounds.words_in lent
-
-    pub back_here : heap_in h.tables (replaced x.slot x.end h.words part) b ≡ part
+    pub lent_heap : take (e - a) (drop a h.words) ≡ heap_in h.tables h.words b
     unfolding heap_in
-    back_here =
-        let z : heap_words (cols_in numbers b) ≡ x.end - x.slot = rw is (omega arith) in
-        let y : slot_in numbers b ≡ x.slot = rw is in
-        rw (z, y) (here x.slot x.end h.words part bounds.words_rise bounds.words_in lent)
+    lent_heap = let z : slot_in numbers b + heap_words (cols_in numbers b) - slot_in numbers b ≡ heap_words (cols_in numbers b) = omega arith in rw (is.begin, is.end, z)
 
-    pub back_other : (c : ℕ) → c < length bs → c ≢ b → heap_in h.tables (replaced x.slot x.end h.words part) c ≡ heap_in h.tables h.words c
-    unfolding heap_in
-    back_other c r n = elsewhere x.slot x.end h.words part bounds.words_rise bounds.words_in lent (slot_in numbers c) (heap_words (cols_in numbers c))
-        (rw is (held.parted.apart c b r l n))
+    pub lent_holds : (rows : List (List ℕ)) (col0 cols : ℕ) (labels : List ℕ) → BlockLeaves h.tables h.row_labels b rows col0 cols labels
+        → Holds (take (e - a) (drop a h.words)) rows col0 cols labels (get_or ss b no_block_state).trace.model
+    lent_holds rows col0 cols labels k = rw (lent_heap, k.rows_are, k.labels_are, k.col0_is, k.cols_is) (held.each b l)
+
+    -- the part is back
+    module _ (part : List ℕ) (lent : length part ≡ length (take (e - a) (drop a h.words))) where
+      pub back_long : length (replaced a e h.words part) ≡ length h.words
+      back_long = kept_long a e h.words part words_within.0 words_within.1 lent
+
+      pub back_here : heap_in h.tables (replaced a e h.words part) b ≡ part
+      unfolding heap_in
+      back_here =
+          let z : heap_words (cols_in numbers b) ≡ e - a = omega (arith, is.begin, is.end) in
+          rw (z, sym is.begin) (here a e h.words part words_within.0 words_within.1 lent)
+
+      pub back_other : (c : ℕ) → c < length bs → c ≢ b → heap_in h.tables (replaced a e h.words part) c ≡ heap_in h.tables h.words c
+      unfolding heap_in
+      back_other c r n = elsewhere a e h.words part words_within.0 words_within.1 lent (slot_in numbers c) (heap_words (cols_in numbers c))
+          (rw (is.begin, is.end) (held.parted.apart c b r l n))

@@ -35,7 +35,7 @@ use Rattle.labelling_laws.specs.Acceptance.{Accepted, Suits}
 use Rattle.labelling_laws.proofs.Acceptance.{suits}
 use Rattle.labelling_laws.specs.OneBlock.{Fit}
 use Rattle.labelling_laws.proofs.Arcs.{blocks_fit}
-use Rattle.engine.specs.Labeller.State.{Tables}
+use Rattle.engine.specs.declared.blocks.Tables.{Tables}
 use Rattle.engine.specs.Labeller.Begins.{tables_for}
 use Rattle.engine.specs.Labeller.ArcWords.{arc_word, lent_arc, Traced}
 

@@ -6,7 +6,7 @@
 --   Underway AdvanceNeeds AdvanceLeaves step-..         the same for any pieces whose arrays these are
 --   RunStepsNeeds RunStepsLeaves RunStepsKeeps run-..   the steps one after the other
 --   LabelAllGiven LabelAllNeeds LabelAllLeaves label-.. fresh heaps and a blank buffer; the source is settled
-use Rattle.std.specs.Prelude.{◌≡◌, ◌≢◌, get_or, replicate}
+use Rattle.std.specs.Prelude.{◌≡◌, ◌≢◌, get_or, replicate, Option, Some, None}
 use Rattle.std.proofs.Math.Path.{refl, sym, ap}
 use Rattle.std.proofs.Common.{◌∙◌}
 use mathlib.Core.List.{List, [], ◌∷◌, ◌++◌, map}
@@ -30,10 +30,10 @@ use Rattle.labelling_laws.specs.OneBlock.{Fit, inserted_most}
 use Rattle.labelling_laws.specs.BlockSteps.{block_at, Setting}
 use Rattle.labelling_laws.proofs.LoopLaws.{start_is, advance_old, advance_new, least_in_lem, labels_length, labels_none, labels_set, read_unsettled, read_settled}
 use Rattle.labelling_laws.proofs.Ends.{start_extracts, step_extracts, goes, finished, reached_few, labels_short, extractions_bound, insertions_bound, welcome_start, welcome_step}
-use Rattle.engine.specs.declared.labelling.Progress.{Progress}
-use Rattle.engine.specs.declared.labelling.Progress.TheVariants as progress
-use Rattle.engine.specs.declared.labelling.Step.TheVariants as step
-use Rattle.engine.specs.Labeller.State.{Tables, Arrays, arrays, changed, Parted, Running, call_at}
+use Rattle.engine.specs.declared.blocks.BlockHeaps.{BlockHeaps}
+use Rattle.engine.specs.declared.labelling.Step.{Step}
+use Rattle.engine.specs.declared.blocks.Tables.{Tables}
+use Rattle.engine.specs.Labeller.State.{Arrays, arrays, changed, Parted, Running, call_at}
 use Rattle.engine.specs.Labeller.Counts.{activation_inserts, block_inserts, max_inserted, max_extracted}
 use Rattle.engine.specs.Labeller.BlockCalls.{count_is, block_same}
 use Rattle.engine.specs.Labeller.LentHeaps.{window_long}
@@ -63,8 +63,8 @@ pub record Store : Type 0 where
   pub arcs : List ℕ
 
 -- as the functions have them
-abbrev pub store : List (List ℕ) → List (List ℕ) → List ℕ → List ℕ → List ℕ → List ℕ → List ℕ → List ℕ → Store
-store matrix index numbers row_labels words tree labels arcs = record { arrays = arrays matrix index numbers row_labels words tree; labels = labels; arcs = arcs }
+abbrev pub store : Tables → List ℕ → BlockHeaps → List ℕ → List ℕ → Store
+store t row_labels h labels arcs = record { arrays = arrays t row_labels h; labels = labels; arcs = arcs }
 
 -- after a step
 abbrev pub changed_store : Store → List ℕ → List ℕ → List ℕ → List ℕ → List ℕ → Store
@@ -262,11 +262,11 @@ pub record AdvanceNeeds (s : Store) (a : LabelAnswer) : Type 0 where
   pub underway : Underway arcs_by s a source n pieces
 
 -- one extraction more, of at most so many; or the answer so far is the last one
-abbrev pub Advanced : (LabelAnswer → Type 0) → Type 0 → LabelAnswer → Progress → Type 0
-Advanced next ended a (progress.Next b) = next b × (b.extracted ≡ a.extracted + 1) × (a.extracted < max_extracted)
-Advanced next ended a progress.Ended = ended
+abbrev pub Advanced : (LabelAnswer → Type 0) → Type 0 → LabelAnswer → Option LabelAnswer → Type 0
+Advanced more ended a (Some b) = more b × (b.extracted ≡ a.extracted + 1) × (a.extracted < max_extracted)
+Advanced more ended a None = ended
 
-abbrev pub AdvanceLeaves : Store → Store → LabelAnswer → Progress → Type 0
+abbrev pub AdvanceLeaves : Store → Store → LabelAnswer → Option LabelAnswer → Type 0
 AdvanceLeaves s s' a r = (f : ℕ → RouteArc) (source n : ℕ) (qs : List Piece) → Underway f s a source n qs
     → Advanced (λ next. Underway f s' next source n qs) (IsLabelling f (blocks qs) source a s'.labels s'.arcs) a r
 
@@ -284,14 +284,26 @@ module _ {s : Store} {a : LabelAnswer} (needs : AdvanceNeeds s a) where
     abbrev extracted_now : Arrays
     extracted_now = changed s.arrays s.arrays.heaps.row_labels words tree
 
-    pub step_ends : ExtractLeaves s.arrays extracted_now step.Nothing → (f : ℕ → RouteArc) (source n : ℕ) (qs : List Piece) → Underway f s a source n qs
+    pub step_ends : ExtractLeaves s.arrays extracted_now None → (f : ℕ → RouteArc) (source n : ℕ) (qs : List Piece) → Underway f s a source n qs
         → IsLabelling f (blocks qs) source a s.labels s.arcs
     step_ends done f source n qs u =
         let end = (done (blocks qs) _ f u.steps_done.running (columned u.mapped) u.traced).0 in
         let x = stopped u.mapped u.setting u.steps_done end in
         (rw (← u.accepted) at x.0, x.1, rw (← last u.mapped u.setting u.steps_done end) u.arcs_held)
 
-    module _ {v z m arc : ℕ} (done : ExtractLeaves s.arrays extracted_now (step.Vertex v z m arc)) where
+    module _ {x : Step} (done : ExtractLeaves s.arrays extracted_now (Some x)) where
+      abbrev v : ℕ
+      v = x.vertex
+
+      abbrev z : ℕ
+      z = x.sum
+
+      abbrev m : ℕ
+      m = x.inserted
+
+      abbrev arc : ℕ
+      arc = x.arc
+
       extracted : (f : ℕ → RouteArc) (source n : ℕ) (qs : List Piece) (u : Underway f s a source n qs)
           → VertexExtracted f (Running extracted_now (blocks qs)) (steps a.extracted (start (blocks qs) source)).blocks v z m arc
       extracted f source n qs u = done (blocks qs) _ f u.steps_done.running (columned u.mapped) u.traced
@@ -356,28 +368,17 @@ module _ {s : Store} {begun : ℕ} (needs : RunStepsNeeds s begun) where
     pub run_needs : AdvanceNeeds s' a
     run_needs = record { arcs_by = needs.arcs_by; source = needs.source; n = needs.n; pieces = needs.pieces; underway = underway_now }
 
-    pub run_long : (length s'.arrays.heaps.row_labels ≡ length s.arrays.heaps.row_labels) × (length s'.arrays.heaps.words ≡ length s.arrays.heaps.words)
-        × (length s'.arrays.tree ≡ length s.arrays.tree) × (length s'.labels ≡ length s.labels) × (length s'.arcs ≡ length s.arcs)
-    run_long =
-        let x = underway_now.steps_done in
-        let y = needs.underway.steps_done in (
-          x.running.held.labels_are ∙ sym y.running.held.labels_are,
-          x.running.held.words_are ∙ sym y.running.held.words_are,
-          x.running.played.size ∙ sym y.running.played.size,
-          ap length x.shows ∙ labels_length _ ∙ sym (ap length y.shows ∙ labels_length _),
-          underway_now.arcs_held.long ∙ sym needs.underway.arcs_held.long,
-        )
+    -- one step more, as promised
+    pub run_next : (s'' : Store) (b : LabelAnswer) → AdvanceLeaves s' s'' a (Some b) → RunStepsKeeps s s'' begun b × (b.extracted ≡ a.extracted + 1) × (a.extracted < max_extracted)
+    run_next s'' b done =
+        let x = done needs.arcs_by needs.source needs.n needs.pieces underway_now in
+        (record { goes_on = λ f source n qs u. (done f source n qs (r.goes_on f source n qs u)).0 }, x.1, x.2)
 
-    -- one step, as promised
-    module _ (s'' : Store) {z : Progress} (done : AdvanceLeaves s' s'' a z) where
-      pub run_next : (b : LabelAnswer) → z ≡ progress.Next b → RunStepsKeeps s s'' begun b × (b.extracted ≡ a.extracted + 1) × (a.extracted < max_extracted)
-      run_next b e =
-          let g = rw e at done in
-          let x = g needs.arcs_by needs.source needs.n needs.pieces underway_now in
-          (record { goes_on = λ f source n qs u. (g f source n qs (r.goes_on f source n qs u)).0 }, x.1, x.2)
-
-      pub run_done : z ≡ progress.Ended → RunStepsLeaves s s''.labels s''.arcs begun a
-      run_done e f source n qs u = (rw e at done) f source n qs (r.goes_on f source n qs u)
+    -- there is none
+    pub run_done : (labels' arcs' : List ℕ)
+        → ((f : ℕ → RouteArc) (source n : ℕ) (qs : List Piece) → Underway f s' a source n qs → IsLabelling f (blocks qs) source a labels' arcs')
+        → RunStepsLeaves s labels' arcs' begun a
+    run_done labels' arcs' done f source n qs u = done f source n qs (r.goes_on f source n qs u)
 
 -- ---- the source, then the steps
 

@@ -28,7 +28,8 @@ use Rattle.preparation.specs.Placements.{length_windows_of}
 use Rattle.preparation.specs.Numbering.{no_window}
 use Rattle.labelling_laws.proofs.VertexPlaces.{place_of_lem}
 use Rattle.labelling_laws.specs.OneBlock.{Welcome}
-use Rattle.engine.specs.Labeller.State.{Tables, Arrays, changed, Running}
+use Rattle.engine.specs.declared.blocks.Tables.{Tables}
+use Rattle.engine.specs.Labeller.State.{Arrays, changed, Running}
 use Rattle.engine.specs.Labeller.Counts.{place_inserts, vertex_inserts}
 use Rattle.engine.specs.Labeller.BlockCalls.{accepted_is, count_is, block_same}
 use Rattle.engine.specs.Labeller.Begins.{relabelled}

@@ -1,12 +1,15 @@
 -- A buffer that takes `width` numbers at each place, from its front.
+--   copied_sets                       numbers copied over a part of it
 --   Front front_none front_next       what stands at the first k places, the rest as it was
 --   front_length front_padded         its length, and a filler behind the front
 --   length_answers answers_back       the answers
 --   first_listed front_kept kept_padded    the kept intervals
 use Rattle.std.specs.Prelude.{◌≡◌, refl, ℕ, suc, ◌+◌, ◌*◌, ◌-◌, ◌≤◌, length, take, drop, replicate}
-use Rattle.std.proofs.Common.{sym, ap, ◌∙◌, zero-add, add-zero, mul-zero, mul-suc, add-one, arith, length-append, length-drop, drop_of_length-le, take_at, drop_at, length-take-le}
+use Rattle.std.proofs.Common.{sym, ap, ◌∙◌, zero-add, add-zero, mul-zero, mul-suc, add-one, arith, length-append, length-drop, drop_of_length-le, take_at, take_all, drop_at, length-take-le}
 use mathlib.Core.List.{List, [], ◌∷◌, ◌++◌, map, map-append, flat_map, append-nil}
-use Rattle.std.proofs.lemmas.List.Edits.{sets}
+use borrow.Rule.Slice.PartMut.{put_mid}
+use Rattle.std.proofs.lemmas.Slice.{put_mid-paste}
+use Rattle.std.proofs.lemmas.List.Edits.{sets, sets-eq}
 use Rattle.definitions.specs.Limits.{answer_size, interval_size, unused_interval}
 use Rattle.definitions.specs.Lists.{up_from, padded}
 use Rattle.definitions.specs.Model.{Answer}
@@ -16,6 +19,11 @@ use Rattle.basics.specs.Buffers.{flat_map_snoc, front_sets, front_full}
 use Rattle.basics.specs.Sequences.{up_from_snoc, map_next}
 use Rattle.engine.specs.Heap.Strides.{group_behind}
 use Rattle.engine.specs.Heap.WordLaws.{Word, numbers_long}
+
+-- numbers copied over those from a place on
+pub copied_sets : (l xs copied : List ℕ) (at n : ℕ) → copied ≡ xs → n ≡ length xs → at + n ≤ length l → put_mid at (at + n - at) l copied ≡ sets l at xs
+copied_sets l xs copied at n e long room =
+    put_mid-paste at (at + n - at) l copied xs n e (omega arith) long ∙ rw (take_all n xs (omega arith), long) (sym (sets-eq xs l at (omega arith)))
 
 -- the numbers xs are those of the first k places
 pub record Front (width k : ℕ) (before xs now : List ℕ) : Type 0 where

@@ -4,7 +4,7 @@
 --   judge_activation judge_is    an activation: its refusals,
 --   can_activate steps_activate    and one that is done
 --   steps_none steps_column     an extraction
-use Rattle.std.specs.Prelude.{◌≡◌, true, cond, ◌||◌, List, [], ◌∷◌, ◌≢◌, ℕ, ◌≤◌, ◌<◌, ltb, set}
+use Rattle.std.specs.Prelude.{◌≡◌, true, cond, ◌||◌, List, [], ◌∷◌, ◌≢◌, ℕ, ◌≤◌, ◌<◌, ltb, set, Some, None}
 use Rattle.std.proofs.Math.Path.{refl, ap}
 use Rattle.std.proofs.Common.{sym, ◌∙◌, arith, get_or-set_same}
 use Rattle.std.proofs.Math.Bool.{false}
@@ -14,7 +14,6 @@ use Rattle.std.proofs.Math.ListN.{length, get_or}
 use Rattle.std.proofs.Math.Seq.{get_or-set_other}
 use Rattle.definitions.specs.HeldModel.{lent_entry}
 use Rattle.definitions.specs.CallChains.{SessionHolds, step_of, answer_in, Steps}
-use Rattle.definitions.specs.declared.Extraction.TheVariants.{Column, Nothing}
 use Rattle.definitions.specs.Limits.{max_label, unreached}
 use Rattle.definitions.specs.Lists.{Every}
 use Rattle.definitions.specs.Best.{Best, nobody, by, least_from}
@@ -148,7 +147,7 @@ module _ (rows : List (List ℕ)) (cols : ℕ) (heap labels : List ℕ) (floor :
   asked : step_of rows cols m k ≡ record { model = extract m found; answer = extraction_of found }
   asked = step_extract (lent_entry rows 0) (length rows) cols m k kind_is
 
-  pub steps_none : MinExtracted u rows 0 cols labels m Nothing inserted parent → Steps rows cols m k u labels (refusal 50 floor)
+  pub steps_none : MinExtracted u rows 0 cols labels m None inserted parent → Steps rows cols m k u labels (refusal 50 floor)
   unfolding extract
   steps_none t = go found refl
     where
@@ -160,7 +159,7 @@ module _ (rows : List (List ℕ)) (cols : ℕ) (heap labels : List ℕ) (floor :
           (rw q (sym (count_new_same (intervals (lent_entry rows 0) cols m)))) (rw q (sym (count_new_same (intervals (lent_entry rows 0) cols m))))
       go (by c d) e = absurd (omega (arith, ap (λ (a : Answer). a.code) (rw e at t.answer_is)))
 
-  pub steps_column : (column sum : ℕ) → MinExtracted u rows 0 cols labels m (Column column sum) inserted parent
+  pub steps_column : (column sum : ℕ) → MinExtracted u rows 0 cols labels m (Some (column, sum)) inserted parent
       → Steps rows cols m k u labels (record { code = 0; column = column; sum = sum; floor = sum; inserted = inserted; removed = 1 })
   unfolding extract
   steps_column column sum t = go found refl
@@ -170,5 +169,5 @@ module _ (rows : List (List ℕ)) (cols : ℕ) (heap labels : List ℕ) (floor :
       go (by c d) e =
           let q = rw e at asked in
           let b = rw e at t.changed in
-          let a : answer_of (Column column sum) ≡ extraction_of (by c d) = rw e at t.answer_is in
+          let a : answer_of (Some (column, sum)) ≡ extraction_of (by c d) = rw e at t.answer_is in
           stepped rows cols heap labels floor m s k u labels _ (rw q (record { held = b.held; unlabelled = s.unlabelled; floor_is = ap (λ (a : Answer). a.sum) a })) (rw q a) (rw q b.inserted_is) (rw q b.removed_is)

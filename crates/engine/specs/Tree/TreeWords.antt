@@ -6,12 +6,10 @@
 --   WinnerLeaves           the lowest block of least sum
 --   KeyChanged             one block has another key
 --   best_of                 the code's answer as a best
-use Rattle.std.specs.Prelude.{◌≡◌, List, ◌≢◌, ℕ, ◌+◌, ◌-◌, ◌*◌, ◌^◌, ◌≤◌, ◌<◌, min, get_or, length}
+use Rattle.std.specs.Prelude.{◌≡◌, List, ◌≢◌, ℕ, ◌+◌, ◌-◌, ◌*◌, ◌^◌, ◌≤◌, ◌<◌, min, get_or, length, Option, Some, None}
 use Rattle.std.proofs.Common.{arith}
 use Rattle.definitions.specs.Best.{Best, nobody, by, least_from}
 use Rattle.preparation.specs.Prepared.{max_blocks}
-use Rattle.engine.specs.declared.tree.Chosen.{Chosen}
-use Rattle.engine.specs.declared.tree.Chosen.TheVariants.{Block, Nothing}
 use Rattle.engine.specs.Heap.WordLaws.{word_end}
 
 -- the least power of two that gives each block a leaf
@@ -68,6 +66,6 @@ unfoldable pub KeyChanged : ℕ → ℕ → List ℕ → List ℕ → Type 0
 KeyChanged b x before after =
     (w v : ℕ → Best) → IsTournament w before → Key b (v b) x → ((i : ℕ) → i < leaves → i ≢ b → v i ≡ w i) → IsTournament v after
 
-abbrev pub best_of : Chosen → Best
-best_of (Block b s) = by b s
-best_of Nothing = nobody
+abbrev pub best_of : Option (ℕ × ℕ) → Best
+best_of (Some (b, s)) = by b s
+best_of None = nobody

@@ -1,10 +1,6 @@
 -- `mark_all`: the columns before the one that is looked at are marked.
-use Prim.Native.Nat.{◌-◌, ◌≤◌}
 use Rattle.engine.specs.Heap.Reaching.{MarkKeeps}
 use Rattle.engine.proofs.heap.mark_all.Given as goal
 
 abbrev pub invariant-loop-c : goal.invariant-loop-c
-invariant-loop-c l = (l.c ≤ l.cols) × MarkKeeps l.initial.heap l.heap l.c
-
-abbrev pub decreases-loop-c : goal.decreases-loop-c
-decreases-loop-c l = l.cols - l.c
+invariant-loop-c l = MarkKeeps l.initial.heap l.heap l.c

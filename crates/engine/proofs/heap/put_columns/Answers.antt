@@ -4,7 +4,7 @@ use Rattle.engine.specs.Heap.RowBest.{drawn_is}
 use Rattle.engine.proofs.heap.put_columns.Goals as goal
 
 pub best_in-column-requires : goal.best_in-column-requires
-best_in-column-requires c = let p = c.requires in record { reads = (p.fits.2.row_in_lem, p.fits.1, p.indexed.0, p.indexed.1); paths = p.fits.2.paths }
+best_in-column-requires c = let p = c.requires in record { reads = (p.fits.2.row_in_lem, p.fits.1, p.inside); paths = p.fits.2.paths }
 
 pub sum_at-sum-requires : goal.sum_at-sum-requires
 sum_at-sum-requires c =

@@ -8,7 +8,7 @@ pub put_columns-requires : goal.put_columns-requires
 unfolding rest_len
 put_columns-requires c =
     let p = c.requires in
-    record { fits = (omega (arith, simp (lt-ltb _ _ c.if-first-end.true) at p.fits.0), c.if-first-end.true, p.fits.1); indexed = p.indexed }
+    record { fits = (omega (arith, simp (lt-ltb _ _ c.if-first-end.true) at p.fits.0), c.if-first-end.true, p.fits.1); inside = p.inside }
 
 pub returns-then-first-end : goal.returns-then-first-end
 returns-then-first-end c = rest_some _ _ _ _ _ _ _ _ _ c.if-first-end.true c.put_columns.ensures

@@ -12,11 +12,11 @@ use Rattle.engine.specs.Heap.Reaching.{reach_small, reach_column, reach_not}
 use Rattle.engine.proofs.heap.reach_column.Goals as goal
 
 pub reaches_first-requires : goal.reaches_first-requires
-reaches_first-requires c = let p = c.requires in (omega (arith, p.0.words, p.1), p.2, omega (arith, p.1, p.3))
+reaches_first-requires c = let p = c.requires in (omega (arith, p.0.words, p.1), p.2, p.1)
 
 pub overflow_add-reached : goal.overflow_add-reached
 unfolding reached_of
-overflow_add-reached c = let p = c.requires in omega (arith, reach_small _ c.args.rows.now 0 _ 0 p.0 _ p.1)
+overflow_add-reached c = let p = c.requires in omega (arith, reach_small _ c.args.block.now.rows.now 0 _ 0 p.0 _ p.1)
 
 pub bounds-heap-1-then-reaches_first : goal.bounds-heap-1-then-reaches_first
 bounds-heap-1-then-reaches_first c = simp length-set (omega arith)
@@ -26,7 +26,7 @@ unfolding reaches_first reached_of
 returns-then-reaches_first c =
     let p = c.requires in
     let a = c.args in
-    let t : reaches_first a.heap.now a.rows.now a.col0 a.row a.column ≡ true = sym c.reaches_first.ensures ∙ c.if-reaches_first.true in
+    let t : reaches_first a.heap.now a.block.now.rows.now a.block.now.col0 a.row a.column ≡ true = sym c.reaches_first.ensures ∙ c.if-reaches_first.true in
     reach_column _ _ _ _ _ p.0 _ p.1 t
     (eqb-true _ _ (and_left _ _ t)) (and_right (eqb (mark_at a.heap.now a.column) 0) _ t)
 

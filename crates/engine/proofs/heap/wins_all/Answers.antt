@@ -11,7 +11,7 @@ returns-then-reached-gt0 c = λ t. absurd (clash t refl)
 pub returns : goal.returns
 returns c =
     λ t.
-    let z : c.path_turn.result ≡ c.args.cols = eqb-true _ _ t in
+    let z : c.path_turn.result ≡ c.args.block.now.cols = eqb-true _ _ t in
     record {
       fresh = omega (arith, c.reached.ensures.is, c.if-reached-gt0.false);
       paths = λ d l. c.path_turn.ensures.before d (omega arith) (omega (arith, z));

@@ -1,14 +1,23 @@
 -- `labelling::judge` meets its contract: cause by cause, as the definition orders them.
-use mathlib.Core.Path.{sym, ◌∙◌}
-use native.Mathlib.Omega.{arith}
-use Rattle.engine.specs.Labeller.LabelEntry.{judged_labels, judged_network, judged_source}
+use Rattle.std.proofs.lemmas.Result.{err_from_is_err_and}
+use Rattle.definitions.specs.Entries.{judge_labelling, has_places}
+use Rattle.judgements.proofs.OneAfterAnother.{not_none, first_is}
+use Rattle.engine.specs.Labeller.LabelEntry.{judged_network, judged_source}
 use Rattle.engine.proofs.labelling.judge.Goals as goal
 
-pub returns-then-labels-ne-LABEL_PLACES : goal.returns-then-labels-ne-LABEL_PLACES
-returns-then-labels-ne-LABEL_PLACES c = sym (judged_labels _ _ _ _ _ _ _ c.if-labels-ne-LABEL_PLACES.true)
+pub returns-in_err-require : goal.returns-in_err-require
+unfolding judge_labelling has_places
+returns-in_err-require c =
+    let p = err_from_is_err_and c.from_residual.result c.from_residual.ensures.1 in
+    rw (p.1, p.2) (first_is _ _ _ c.in_err-require.ensures)
 
-pub returns-then-cause-ne-NONE : goal.returns-then-cause-ne-NONE
-returns-then-cause-ne-NONE c = c.judge_network-cause.ensures ∙ sym (judged_network _ _ _ _ _ _ _ (omega arith) (rw c.judge_network-cause.ensures at c.if-cause-ne-NONE.true))
+pub returns-in_err-judge_network : goal.returns-in_err-judge_network
+unfolding has_places
+returns-in_err-judge_network c =
+    let r = c.from_residual-in_err-judge_network in
+    let p = err_from_is_err_and r.result r.ensures.1 in
+    rw (p.1, p.2) (judged_network _ _ _ _ _ _ _ c.in_ok-require.ensures _ (not_none _) c.in_err-judge_network.ensures)
 
 pub returns : goal.returns
-returns c = c.judge_source.ensures ∙ sym (judged_source _ _ _ _ _ _ _ (omega arith) (sym c.judge_network-cause.ensures ∙ omega arith))
+unfolding has_places
+returns c = judged_source _ _ _ _ _ _ _ c.in_ok-require.ensures c.in_ok-judge_network.ensures _ c.judge_source.ensures
