@@ -3,7 +3,7 @@
 --   part_read                   the part of a buffer that was read
 --   front_listed                what is written for the front of an input is written for the whole
 use Rattle.std.specs.Prelude.{◌≡◌, ◌⊎◌, List, ℕ, ◌≤◌, ◌<◌, length, take}
-use Rattle.std.proofs.Common.{sym, ◌∙◌, inl, inr, arith, length-take-le, take_all}
+use Rattle.std.proofs.Common.{sym, ◌∙◌, inl, inr, arith, length-take-le, min, take_all}
 use Rattle.std.proofs.lemmas.Bool.{lt-leb}
 use Rattle.definitions.specs.Limits.{max_text}
 use Rattle.definitions.specs.Reading.{judge_length, read_text}
@@ -24,9 +24,12 @@ listing_front text = go (split_at max_text (length text))
     go (inr h) = rw (take_all input_places text (omega arith))
 
 -- what was read into a buffer: as much as is said, and no more than it holds
-pub part_read : (buffer : List ℕ) (read end : ℕ) → (end ≡ read) ⊎ ((length buffer ≤ read) × (end ≡ length buffer)) → take end buffer ≡ take read buffer
-part_read buffer read end (inl e) = rw e
-part_read buffer read end (inr h) = take_all end buffer (omega arith) ∙ sym (take_all read buffer h.0)
+pub part_read : (buffer : List ℕ) (read end : ℕ) → end ≡ min read (length buffer) → take end buffer ≡ take read buffer
+part_read buffer read end e = go (split_at (length buffer) read)
+  where
+    go : (length buffer < read) ⊎ (read ≤ length buffer) → take end buffer ≡ take read buffer
+    go (inl h) = take_all end buffer (omega arith) ∙ sym (take_all read buffer (omega arith))
+    go (inr h) = let same : end ≡ read = omega arith in rw same
 
 -- what is written for the front of an input is what is written for the whole
 pub front_listed : (input buffer out : List ℕ) (read : ℕ) → length buffer ≡ input_places → take read buffer ≡ take (length buffer) input → write_listing (take read buffer) out ≡ write_listing input out

@@ -17,7 +17,7 @@ use Rattle.definitions.specs.Blocks.{blocks}
 use Rattle.definitions.specs.Labelling.{State, label_of, labelling, held_label, labels, route_to}
 use Rattle.definitions.specs.Judgement.{judge_bounds, judge_source, judge_target, pieces_of, judge_from, judge_network}
 use Rattle.definitions.specs.Entries.{AfterLabel, AfterRoute, has_places, judge_buffers, judge_labelling, label_answer, label_network, judge_route, arcs_of, route_answer, route_network, judge_lent, listing_line, state_listing, route_listing}
-use Rattle.definitions.proofs.Laws.Causes.{no_cause, bounds_in}
+use Rattle.definitions.proofs.Laws.CauseLaws.{no_cause, bounds_in}
 use Rattle.labelling_laws.specs.Acceptance.{Accepted}
 use Rattle.labelling_laws.specs.Labels.{Status, settled, unsettled}
 use Rattle.labelling_laws.proofs.Labels.{status}

@@ -1,14 +1,14 @@
 -- The lines of a listing.
 --   length_line                                          a line of k fields has 9·k + 1 bytes
 --   fields_turn fields_all                               a line's fields, written one by one
---   lines_from length_lines lines_turn lines_all          a line for each of several numbers, put one by one
+--   lines_from length_lines lines_none lines_more         a line for each of several numbers; of none, and of one number more
 --   vertex_fields vertex_lines length_vertices             the lines of the vertices
 --   arc_fields arc_lines length_numbers .. length_arcs     the lines of the arcs in the buffer of a route
 --   arcs_lines                                           they are those of the route's arcs
 --   refusal_word refusal_bytes refusal_is refusal_fits     the line of a refusal
 use Rattle.std.specs.Prelude.{◌≡◌, refl, get_or, length, take, drop}
-use Rattle.std.proofs.Common.{sym, ap, ◌∙◌, zero-mul, suc-mul, eq-eqb, le-leb, length-append, length-drop, take_at, take_all, take-suc, length-take-le}
-use mathlib.Core.List.{List, [], ◌∷◌, ◌++◌, map, flat_map, append_assoc}
+use Rattle.std.proofs.Common.{sym, ap, ◌∙◌, add-zero, zero-mul, suc-mul, eq-eqb, le-leb, length-append, length-drop, take_at, take_all, take-suc, length-take-le}
+use mathlib.Core.List.{List, [], ◌∷◌, ◌++◌, map, flat_map, append_assoc, append-nil}
 use Prim.Native.Nat.{ℕ, zero, suc, ◌+◌, ◌-◌, ◌*◌, ◌≤◌, ◌<◌}
 use Rattle.std.proofs.Math.Numerals.{add-one}
 use native.Mathlib.Omega.{arith}
@@ -18,9 +18,8 @@ use Rattle.definitions.specs.Network.{RouteArc}
 use Rattle.definitions.specs.Fields.{blank, line_end, decimal, nine_columns}
 use Rattle.definitions.specs.Entries.{has_places, arc_numbers, arcs_of, judge_write, write_field, listing_line, refusal_line, listing_line_bytes}
 use Rattle.fields.specs.NineColumns.{length_nine_columns, max_digits, decimal_few}
-use Rattle.basics.specs.Buffers.{flat_map_snoc, put, put_nothing}
+use Rattle.basics.specs.Buffers.{flat_map_snoc}
 use Rattle.basics.specs.Sequences.{map_next}
-use Rattle.answer.specs.Output.{Put, put_then}
 
 length_fields : (xs : List ℕ) → length (flat_map nine_columns xs) ≡ column_bytes * length xs
 unfolding flat_map
@@ -63,20 +62,19 @@ length_lines f bytes v (suc k) same =
     length-append (listing_line (f v)) (lines_from f (suc v) k)
     ∙ omega (arith, same v (omega arith) (omega arith), length_lines f bytes (suc v) k (λ w low high. same w (omega arith) (omega arith)), suc-mul k bytes)
 
--- put one by one, up to `end`
-module _ (f : ℕ → List ℕ) (out : List ℕ) (place end v : ℕ) where
-  -- one line more
-  pub lines_turn : (next : ℕ) (left : List ℕ) → v < end → place ≤ length out → Put out place (listing_line (f v)) next left
-      → put out place (lines_from f v (end - v)) ≡ put left next (lines_from f (v + 1) (end - (v + 1)))
-  unfolding lines_from flat_map up_from
-  lines_turn next left h room p =
-      let z : end - v ≡ suc (end - (v + 1)) = omega arith in
-      rw (z, add-one v) (sym (put_then out place (listing_line (f v)) (lines_from f (suc v) (end - suc v)) next left p room))
+-- none
+pub lines_none : (f : ℕ → List ℕ) (v : ℕ) → lines_from f v 0 ≡ []
+unfolding lines_from flat_map up_from
+lines_none f v = refl
 
-  -- none is left
-  pub lines_all : v ≡ end → put out place (lines_from f v (end - v)) ≡ out
-  unfolding lines_from flat_map up_from
-  lines_all h = let z : end - v ≡ 0 = omega arith in rw z (put_nothing out place)
+-- one line more
+pub lines_more : (f : ℕ → List ℕ) (v k : ℕ) → lines_from f v (k + 1) ≡ lines_from f v k ++ listing_line (f (v + k))
+unfolding lines_from flat_map up_from
+lines_more f v zero = rw add-zero (append-nil (listing_line (f v)))
+lines_more f v (suc k) =
+    let e : suc k + 1 ≡ suc (k + 1) = omega arith in
+    let z : v + suc k ≡ suc v + k = omega arith in
+    rw (e, z) (ap (λ (l : List ℕ). listing_line (f v) ++ l) (lines_more f (suc v) k) ∙ sym (append_assoc (listing_line (f v)) (lines_from f (suc v) k) (listing_line (f (suc v + k)))))
 
 -- ---- the lines of vertices
 

@@ -26,7 +26,7 @@ use Rattle.definitions.proofs.Laws.LineProofs.{text_read}
 use Rattle.definitions.specs.Text.{sizes_of, vertices_of, lengths_of}
 use Rattle.definitions.specs.Entries.{AfterRead, has_places, judge_buffers, arcs_of, judge_lent, read_refusal, held_target, after_read, reading, refusal_line, state_listing, route_listing, question_listing, plan_listing, listing, listing_places, AfterListing, write_listing}
 use Rattle.definitions.proofs.Laws.Members.{every_imp}
-use Rattle.definitions.proofs.Laws.Causes.{bounds_in, target_in_lem}
+use Rattle.definitions.proofs.Laws.CauseLaws.{bounds_in, target_in_lem}
 use Rattle.definitions.proofs.Laws.ReadLaws.{bind_value, require_value}
 use Rattle.definitions.specs.Written.{SoundPiece, SoundPlan}
 use Rattle.logic.specs.Tests.{Truth, holds, fails, truth}
@@ -37,7 +37,8 @@ use Rattle.text.specs.Back.{pieces_back}
 use Rattle.text.specs.Plans.{plan_answer, After as AfterReading}
 use Rattle.text.specs.Accepted.{shape_of, network_accepted}
 use Rattle.basics.specs.Buffers.{put}
-use Rattle.answer.specs.Output.{Put}
+use Rattle.answer.specs.declared.Output.{Output}
+use Rattle.answer.specs.Output.{Puts}
 use Rattle.answer.specs.Refusals.{Numbered, numbered_text}
 use Rattle.answer.specs.Lines.{length_line, length_vertices, length_arcs, refusal_fits}
 use Rattle.answer.specs.Lent.{Lent, lent_state, state_listing_lem, route_listing_lem, route_few}
@@ -216,11 +217,12 @@ module _ (text out : List ℕ) where
   unfolding write_listing has_places
   untouched h = rw (ne_eqb _ _ h)
 
-  pub finished : length out ≡ listing_places → (xs : List ℕ) (end : ℕ) (left : List ℕ) → Put out 0 xs end left → xs ≡ listing text → record { written = end; out = left } ≡ write_listing text out
+  pub finished : length out ≡ listing_places → {before after : Output} {xs : List ℕ} → Puts before xs after → before.len ≡ 0 → before.bytes.now ≡ out → xs ≡ listing text
+      → record { written = after.len; out = after.bytes.now } ≡ write_listing text out
   unfolding write_listing has_places put
-  finished h xs end left p e =
+  finished h {before} {after} {xs} p first same e =
       let z : 0 + length xs ≡ length xs = omega arith in
-      rw (eq-eqb _ _ h, p.behind, p.stands, z, e)
+      rw (eq-eqb _ _ h, p.behind, p.stands, first, same, z, e)
 
 -- for every output
 pub written_fits : (text out : List ℕ) (end : ℕ) (left : List ℕ) → record { written = end; out = left } ≡ write_listing text out → end ≤ listing_places

@@ -1,15 +1,15 @@
 // The entries for C and Rust, as one static library. Each promises what the entry that it calls promises. An enum does not cross to C: the field reader's value
 // goes to a lent buffer, and what an index answers to a struct.
+// C passes a network and a rectangle as they are, so the parameters stay flat here, and a refusal is its number.
 #![tactic(auto)]
 
 ghost use Rattle.std.specs.Prelude.{◌≡◌, List, ℕ};
-ghost use Rattle.definitions.specs.declared.Least.{Least};
 ghost use Rattle.definitions.specs.Entries.{reading, label_network, route_network, session, write_field, write_listing, judge_lent, field_entry, build_index, ask_index};
-ghost use Rattle.definitions.specs.Index.{least_answer};
+ghost use Rattle.definitions.specs.Index.{Least, least_answer};
 ghost use Rattle.definitions.specs.PlainPromises.{PlainSession, PlainLeast, PlainLabels, PlainRoute};
 
-use bounds::{Cause, Code};
-use definitions::{Field, LabelAnswer, Least, LeastAnswer, ReadAnswer, RouteAnswer, SessionAnswer};
+use definitions::{Cause, Code, LabelAnswer, LeastAnswer, ReadAnswer, RouteAnswer, SessionAnswer};
+use judgements::LentNetwork;
 
 // Six bytes at a place. The value goes to a buffer of one place: one of another size gets 1 and is left, and no field gets 3 and 0.
 #[unsafe(no_mangle)]
@@ -17,15 +17,14 @@ pub extern "C" fn rabdzhine_read_field(text: &[u8], at: usize, value: &mut [u32]
     ensures { record { number = result; value = value.new } ≡ field_entry text.now at value.old }
 {
     if value.len() != 1 {
-        return Cause::BUFFER;
+        return Cause::Buffer.number();
     }
-    let field = fields::read_field(text, at);
-    let Field::Number(x) = field else {
+    let Some(x) = fields::read_field(text, at) else {
         value[0] = 0;
-        return Cause::LAYOUT;
+        return Cause::Layout.number();
     };
     value[0] = x;
-    Cause::NONE
+    0
 }
 
 #[unsafe(no_mangle)]
@@ -33,7 +32,7 @@ pub extern "C" fn rabdzhine_write_field(line: &mut [u8], place: usize, x: u32) -
     ensures number { result ≡ (write_field line.old place x).number }
     ensures written { line.new ≡ (write_field line.old place x).line }
 {
-    fields::write_field(line, place, x)
+    Cause::number_in(fields::write_field(line, place, x))
 }
 
 #[unsafe(no_mangle)]
@@ -58,7 +57,14 @@ pub extern "C" fn rabdzhine_check_network(
 ) -> u32
     ensures { result ≡ judge_lent n p sizes.now vertices.now lengths.now }
 {
-    judgements::judge_network(n, p, sizes, vertices, lengths)
+    let network = LentNetwork {
+        n,
+        p,
+        sizes,
+        vertices,
+        lengths,
+    };
+    Cause::number_in(judgements::judge_network(&network))
 }
 
 #[unsafe(no_mangle)]
@@ -86,7 +92,7 @@ pub extern "C" fn rabdzhine_build_index(
 ) -> u32
     ensures { record { number = result; index = index.new } ≡ build_index rows cols lengths.now index.old }
 {
-    index::build_index(rows, cols, lengths, index)
+    Cause::number_in(index::build_index(rows, cols, lengths, index))
 }
 
 #[unsafe(no_mangle)]
@@ -102,18 +108,14 @@ pub extern "C" fn rabdzhine_ask_index(
     ensures asked { result ≡ least_answer (ask_index rows cols lengths.now index.now row first end) }
     ensures plain { (before : List ℕ) → (build_index rows cols lengths.now before).number ≡ 0 → index.now ≡ (build_index rows cols lengths.now before).index → (l : Least) × (result ≡ least_answer l) × PlainLeast rows cols lengths.now row first end l }
 {
-    let least = index::ask_index(rows, cols, lengths, index, row, first, end);
-    match least {
-        Least::Column(column) => LeastAnswer {
-            code: Code::DONE,
-            column,
-        },
-        Least::Nothing => LeastAnswer {
-            code: Code::NOTHING,
+    match index::ask_index(rows, cols, lengths, index, row, first, end) {
+        Ok(Some(column)) => LeastAnswer { code: 0, column },
+        Ok(None) => LeastAnswer {
+            code: Code::Nothing.number(),
             column: 0,
         },
-        Least::Refused(number) => LeastAnswer {
-            code: number,
+        Err(cause) => LeastAnswer {
+            code: cause.number(),
             column: 0,
         },
     }
@@ -132,7 +134,14 @@ pub extern "C" fn rabdzhine_label_network(
     ensures labelled { record { answer = result; labels = labels.new } ≡ label_network n p sizes.now vertices.now lengths.now source labels.old }
     ensures plain { result.number ≡ 0 → PlainLabels n p sizes.now vertices.now lengths.now source result labels.new }
 {
-    engine::label_network(n, p, sizes, vertices, lengths, source, labels)
+    let network = LentNetwork {
+        n,
+        p,
+        sizes,
+        vertices,
+        lengths,
+    };
+    engine::label_network(&network, source, labels)
 }
 
 #[unsafe(no_mangle)]
@@ -149,7 +158,14 @@ pub extern "C" fn rabdzhine_route_network(
     ensures routed { record { answer = result; arcs = arcs.new } ≡ route_network n p sizes.now vertices.now lengths.now source target arcs.old }
     ensures plain { result.number ≡ 0 → PlainRoute p sizes.now vertices.now lengths.now source target result arcs.new }
 {
-    routes::route_network(n, p, sizes, vertices, lengths, source, target, arcs)
+    let network = LentNetwork {
+        n,
+        p,
+        sizes,
+        vertices,
+        lengths,
+    };
+    routes::route_network(&network, source, target, arcs)
 }
 
 #[unsafe(no_mangle)]

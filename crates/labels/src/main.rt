@@ -1,5 +1,5 @@
 // Reads a plan from standard input and writes its listing, or the line of its refusal. A listing that could not be written whole, as on a
-// full disk, is told on standard error; a read that fails ends the program with its error.
+// full disk, is reported on standard error; a read that fails ends the program with its error.
 #![tactic(auto)]
 
 use std::io;

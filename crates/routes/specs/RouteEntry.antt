@@ -15,7 +15,7 @@ use Rattle.definitions.specs.Labelling.{labelling}
 use Rattle.definitions.specs.Labelling as Labelling
 use Rattle.definitions.specs.Entries.{has_places, AfterLabel, judge_labelling, label_answer, label_network, AfterRoute, judge_route, route_refusal, route_network}
 use Rattle.definitions.specs.PlainPromises.{PlainRoute}
-use Rattle.definitions.proofs.Laws.Causes.{no_cause, target_in_lem}
+use Rattle.definitions.proofs.Laws.CauseLaws.{no_cause, target_in_lem}
 use Rattle.definitions.specs.declared.LabelAnswer.{LabelAnswer}
 use Rattle.definitions.specs.declared.RouteAnswer.{RouteAnswer}
 use Rattle.logic.specs.Tests.{Equal, equal, differ, equality}

@@ -1,5 +1,5 @@
 -- The buffer of a route, as the arcs are put into it.
---   PutArcNeeds                       a place of the buffer, and the word of an arc
+--   ArcNeeds                          the word of an arc, and buffers that it reads
 --   partly partly-..                  the last arcs stand at their places, and the places before them and behind are 0
 --   PutArcsNeeds PutArcsLeaves        what is needed and left where all are put
 --   PutArcsKeeps put-..               those that are put so far
@@ -24,12 +24,14 @@ use Rattle.routes.specs.Following.{Kept, last_state, route_in, HasLabel, vertex_
 
 -- ---- one arc
 
-pub record PutArcNeeds (arcs : List ℕ) (k : ℕ) (vertices lengths : List ℕ) (word : ℕ) : Type 0 where
-  pub room : arc_size * k + arc_size ≤ length arcs
-  pub small : k ≤ max_arcs
+pub record ArcNeeds (vertices lengths : List ℕ) (word : ℕ) : Type 0 where
   pub places : ArcPlaces word
   pub vertices_long : length vertices ≡ vertex_places
   pub lengths_long : length lengths ≡ length_places
+
+pub numbers_four : (a : RouteArc) → length (arc_numbers a) ≡ arc_size
+unfolding arc_numbers
+numbers_four a = refl
 
 -- ---- all of them
 
@@ -49,10 +51,6 @@ partly_all done = let e : 0 + length done ≡ length done = omega arith in rw (e
 
 partly_long : (k : ℕ) (done : List RouteArc) → k + length done ≤ max_arcs → length (partly k done) ≡ route_places
 partly_long k done few = simp (length-append, length-replicate) (omega (arith, numbers_length done))
-
-numbers_four : (a : RouteArc) → length (arc_numbers a) ≡ arc_size
-unfolding arc_numbers
-numbers_four a = refl
 
 partly_more : (k : ℕ) (a : RouteArc) (done : List RouteArc) → suc k + length done ≤ max_arcs → sets (partly (k + 1) done) (arc_size * k) (arc_numbers a) ≡ partly k (a ∷ done)
 unfolding flat_map
@@ -137,10 +135,12 @@ module _ {arcs₀ vertices lengths words : List ℕ} {target count : ℕ} (needs
       not_source : (source n : ℕ) (qs : List Piece) → Kept vertices lengths words source n qs → PutArcsGone arcs qs source target v k → v ≢ source
       not_source source n qs kept g e = omega (arith, g.left, none_left kept v g.there e)
 
-      pub put_needs : PutArcNeeds arcs (k - 1) vertices lengths (get_or words (v - 1) 0)
+      -- its four places are in the buffer
+      pub put_room : arc_size * (k - 1) + arc_size ≤ length arcs
+      put_room = omega (arith, put_long, in_all _ _ _ needs.kept needs.reaches gone)
+
+      pub put_needs : ArcNeeds vertices lengths (get_or words (v - 1) 0)
       put_needs = record {
-        room = omega (arith, put_long, in_all _ _ _ needs.kept needs.reaches gone);
-        small = omega (arith, in_all _ _ _ needs.kept needs.reaches gone);
         places = (passed needs.kept v gone.there (not_source _ _ _ needs.kept gone)).places;
         vertices_long = needs.kept.vertices_long;
         lengths_long = needs.kept.lengths_long;

@@ -1,9 +1,10 @@
 -- `route_network` meets its contract: cause by cause, and what is written for an accepted network is the definition's.
-use mathlib.Core.Path.{◌≡◌, sym, ◌∙◌}
+use mathlib.Core.Path.{◌≡◌, sym}
 use Prim.Native.Nat.{ℕ}
 use native.Mathlib.Omega.{arith}
 use lib.ListN.{length, replicate, length-replicate}
-use Rattle.definitions.specs.Limits.{label_places, route_places}
+use Rattle.definitions.specs.Limits.{label_places}
+use Rattle.judgements.proofs.OneAfterAnother.{not_none}
 use Rattle.routes.specs.RouteEntry.{refused_size, refused_early, refused_target, can_write, routed, plain}
 use Rattle.routes.proofs.route_network.Goals as goal
 
@@ -14,25 +15,23 @@ zeros = length-replicate {A = ℕ} label_places 0
 pub returns-then-arcs-ne-ROUTE_PLACES : goal.returns-then-arcs-ne-ROUTE_PLACES
 returns-then-arcs-ne-ROUTE_PLACES c =
     let x = refused_size _ _ _ _ _ _ _ _ c.if-arcs-ne-ROUTE_PLACES.true in
-    record { routed = rw c.refusal.ensures x; plain = rw c.refusal.ensures (plain _ _ _ _ _ _ _ _ _ _ x) }
+    rw (c.refusal.ensures, c.number.ensures) (record { routed = x; plain = plain _ _ _ _ _ _ _ _ _ _ x })
 
-pub returns-then-number-ne-NONE : goal.returns-then-number-ne-NONE
-returns-then-number-ne-NONE c = let full : length c.args.arcs.now ≡ route_places = omega (arith, c.if-arcs-ne-ROUTE_PLACES.false) in
-    let x = refused_early _ _ _ _ _ _ c.args.target c.args.arcs.now full zeros zeros c.label_arcs-done.ensures c.if-number-ne-NONE.true in
-    record { routed = rw c.refusal-then-number-ne-NONE.ensures x; plain = rw c.refusal-then-number-ne-NONE.ensures (plain _ _ _ _ _ _ _ _ _ _ x) }
+pub returns-then-done-ne0 : goal.returns-then-done-ne0
+returns-then-done-ne0 c =
+    let x = refused_early _ _ _ _ _ _ c.args.target c.args.arcs.now c.if-arcs-ne-ROUTE_PLACES.false zeros zeros c.label_arcs-done.ensures c.if-done-ne0.true in
+    rw c.refusal-then-done-ne0.ensures (record { routed = x; plain = plain _ _ _ _ _ _ _ _ _ _ x })
 
-pub returns-then-outside-ne-NONE : goal.returns-then-outside-ne-NONE
-returns-then-outside-ne-NONE c = let full : length c.args.arcs.now ≡ route_places = omega (arith, c.if-arcs-ne-ROUTE_PLACES.false) in
-    let x = refused_target _ _ _ _ _ _ c.args.target c.args.arcs.now full zeros zeros c.label_arcs-done.ensures (omega (arith, c.if-number-ne-NONE.false)) _ c.judge_target-outside.ensures c.if-outside-ne-NONE.true in
-    record { routed = rw c.refusal-then-outside-ne-NONE.ensures x; plain = rw c.refusal-then-outside-ne-NONE.ensures (plain _ _ _ _ _ _ _ _ _ _ x) }
+pub returns-in-Err : goal.returns-in-Err
+returns-in-Err c =
+    let x = refused_target _ _ _ _ _ _ c.args.target c.args.arcs.now c.if-arcs-ne-ROUTE_PLACES.false zeros zeros c.label_arcs-done.ensures (omega (arith, c.if-done-ne0.false)) _ c.in-Err.ensures (not_none _) in
+    rw (c.refusal-in-Err.ensures, c.number-in-Err.ensures) (record { routed = x; plain = plain _ _ _ _ _ _ _ _ _ _ x })
 
 pub write_route-requires : goal.write_route-requires
-write_route-requires c = let full : length c.args.arcs.now ≡ route_places = omega (arith, c.if-arcs-ne-ROUTE_PLACES.false) in
-    can_write _ _ _ _ _ _ c.args.target c.args.arcs.now full zeros zeros c.label_arcs-done.ensures (omega (arith, c.if-number-ne-NONE.false))
-    (sym c.judge_target-outside.ensures ∙ omega (arith, c.if-outside-ne-NONE.false))
+write_route-requires c =
+    can_write _ _ _ _ _ _ c.args.target c.args.arcs.now c.if-arcs-ne-ROUTE_PLACES.false zeros zeros c.label_arcs-done.ensures (omega (arith, c.if-done-ne0.false)) (sym c.in_default.ensures)
 
 pub returns : goal.returns
-returns c = let full : length c.args.arcs.now ≡ route_places = omega (arith, c.if-arcs-ne-ROUTE_PLACES.false) in
-    let x = routed _ _ _ _ _ _ c.args.target c.args.arcs.now full zeros zeros c.label_arcs-done.ensures (omega (arith, c.if-number-ne-NONE.false))
-    (sym c.judge_target-outside.ensures ∙ omega (arith, c.if-outside-ne-NONE.false)) _ _ c.write_route.ensures in
+returns c =
+    let x = routed _ _ _ _ _ _ c.args.target c.args.arcs.now c.if-arcs-ne-ROUTE_PLACES.false zeros zeros c.label_arcs-done.ensures (omega (arith, c.if-done-ne0.false)) (sym c.in_default.ensures) _ _ c.write_route.ensures in
     record { routed = x; plain = plain _ _ _ _ _ _ _ _ _ _ x }

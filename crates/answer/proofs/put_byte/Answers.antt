@@ -1,6 +1,0 @@
--- `answer::put_byte` meets its contract.
-use Rattle.answer.specs.Output.{byte_put}
-use Rattle.answer.proofs.put_byte.Goals as goal
-
-pub returns : goal.returns
-returns c = byte_put _ _ _ c.requires
