@@ -1,171 +1,183 @@
 // Closed tracks. A block that passes its check still passes it with no path in whole rows and whole columns, and in all but a stretch of each other row, if
 // neither end of the stretches falls from a row to the next. All arcs of a block lead to later places of the piece, or all to earlier ones; the
 // columns run against the rows, so that the places j with i + j from a least sum to a largest one are such a stretch of each row i.
-use crate::numbers::{entry, fill, get, less, put, sum, times, up_to};
-use crate::tables::{PLACES, SIDE, fill_random};
+use crate::random::Random;
+use crate::rows::at;
+use crate::tables::{Row, SIDE, put_lengths};
 use bounds::Network;
+use std::array;
 
-// What is kept of the arcs to later places, and from BACK on of those to earlier ones: a mark for each row, one for each column, 0 where it is closed,
-// and the least and the largest sum of two places.
-const COLUMN_MARKS: u32 = SIDE;
-
-const LEAST_SUM: u32 = 2 * SIDE;
-
-const LARGEST_SUM: u32 = LEAST_SUM + 1;
-
-const BACK: u32 = LARGEST_SUM + 1;
-
-const KEPT: u32 = 2 * BACK;
-
-const KEPT_PLACES: usize = KEPT as usize;
-
-// No two places have a larger sum.
-const ALL_SUMS: u32 = 2 * SIDE;
-
-// ---- what is kept
-
-// The sums that are kept of the arcs one way: to later places 0, else BACK.
-fn put_sums(kept: &mut [u32], way: u32, least: u32, largest: u32) {
-    put(kept, sum(way, LEAST_SUM), least);
-    put(kept, sum(way, LARGEST_SUM), largest);
+// What is kept of the arcs one way: those of these rows and columns whose two places have a sum from the least to the largest.
+#[derive(Clone, Copy)]
+struct Kept {
+    rows: [bool; SIDE],
+    columns: [bool; SIDE],
+    least_sum: usize,
+    largest_sum: usize,
 }
 
-fn keep_all_sums(kept: &mut [u32]) {
-    put_sums(kept, 0, 0, ALL_SUMS);
-    put_sums(kept, BACK, 0, ALL_SUMS);
-}
-
-fn keep_all(kept: &mut [u32]) {
-    fill(kept, 1);
-    keep_all_sums(kept);
-}
-
-// Closes one row and one column in so many.
-fn close_lines(seed: &mut u64, kept: &mut [u32]) {
-    let others = match up_to(seed, 2) {
-        0 => 1,
-        1 => 3,
-        _ => 11,
+impl Kept {
+    // No two places have a larger sum.
+    const ALL: Kept = Kept {
+        rows: [true; SIDE],
+        columns: [true; SIDE],
+        least_sum: 0,
+        largest_sum: 2 * SIDE,
     };
-    fill_random(seed, others, kept);
-    keep_all_sums(kept);
-}
 
-// Closes all but a stretch of each row in the blocks of one way.
-fn keep_sums(seed: &mut u64, m: u32, kept: &mut [u32], way: u32) {
-    let least = up_to(seed, m);
-    let largest = sum(least, up_to(seed, times(2, m)));
-    put_sums(kept, way, least, largest);
-}
+    // With no row, no arc is kept.
+    const NONE: Kept = Kept {
+        rows: [false; SIDE],
+        ..Kept::ALL
+    };
 
-fn keep_stretches(seed: &mut u64, m: u32, kept: &mut [u32]) {
-    keep_all(kept);
-    keep_sums(seed, m, kept, 0);
-    keep_sums(seed, m, kept, BACK);
-}
+    // All but one row and one column in so many. Two random numbers more are passed over, so that the plans stay those of the file `stdout`.
+    fn choose_lines(random: &mut Random, times: usize) -> Kept {
+        let kept = Kept {
+            rows: choose_marks(random, times),
+            columns: choose_marks(random, times),
+            ..Kept::ALL
+        };
+        random.one_in(times);
+        random.one_in(times);
+        kept
+    }
 
-fn close_lines_and_keep_stretches(seed: &mut u64, m: u32, kept: &mut [u32]) {
-    close_lines(seed, kept);
-    keep_sums(seed, m, kept, 0);
-    keep_sums(seed, m, kept, BACK);
-}
+    // Keeps only a stretch of each row.
+    fn keep_stretch(&mut self, random: &mut Random, m: usize) {
+        let stretches = m.saturating_add(1);
+        self.least_sum = random.place(stretches);
+        let longer = random.place(stretches.saturating_add(m));
+        self.largest_sum = self.least_sum.saturating_add(longer);
+    }
 
-fn close_row(kept: &mut [u32], v: u32) {
-    put(kept, v, 0);
-    put(kept, sum(BACK, v), 0);
-}
-
-fn close_column(kept: &mut [u32], v: u32) {
-    put(kept, sum(COLUMN_MARKS, v), 0);
-    put(kept, sum(BACK + COLUMN_MARKS, v), 0);
-}
-
-fn close_row_and_column(kept: &mut [u32], v: u32) {
-    close_row(kept, v);
-    close_column(kept, v);
-}
-
-// Cuts off a vertex: no arc leads from it, or none to it, or neither.
-fn cut_off(seed: &mut u64, m: u32, kept: &mut [u32]) {
-    let v = up_to(seed, less(m, 1));
-    keep_all(kept);
-    match up_to(seed, 2) {
-        0 => close_row(kept, v),
-        1 => close_column(kept, v),
-        _ => close_row_and_column(kept, v),
+    // Whether the arc from place i to place j is kept.
+    fn has(&self, i: usize, j: usize) -> bool {
+        let sum = i.saturating_add(j);
+        at(&self.rows, i, false)
+            && at(&self.columns, j, false)
+            && self.least_sum <= sum
+            && sum <= self.largest_sum
     }
 }
 
-// All arcs, none, those of some rows and columns, of a stretch of each row, of both, or all but those of one vertex.
-fn choose_kept(seed: &mut u64, m: u32, kept: &mut [u32]) {
-    match up_to(seed, 5) {
-        0 => keep_all(kept),
-        1 => fill(kept, 0),
-        2 => close_lines(seed, kept),
-        3 => keep_stretches(seed, m, kept),
-        4 => close_lines_and_keep_stretches(seed, m, kept),
-        _ => cut_off(seed, m, kept),
+// Takes the mark from a place.
+fn unmark(marks: &mut [bool; SIDE], i: usize) {
+    if let Some(mark) = marks.get_mut(i) {
+        *mark = false;
+    }
+}
+
+// Marks all but one place in so many.
+fn choose_marks(random: &mut Random, times: usize) -> [bool; SIDE] {
+    array::from_fn(|_| !random.one_in(times))
+}
+
+// What is kept of the arcs to later places, and of those back to earlier ones.
+#[derive(Clone, Copy)]
+struct Arcs {
+    onward: Kept,
+    back: Kept,
+}
+
+impl Arcs {
+    // All arcs.
+    const ALL: Arcs = Arcs {
+        onward: Kept::ALL,
+        back: Kept::ALL,
+    };
+
+    // No arc.
+    const NONE: Arcs = Arcs {
+        onward: Kept::NONE,
+        back: Kept::NONE,
+    };
+
+    // Those of some rows and columns.
+    fn choose_lines(random: &mut Random) -> Arcs {
+        let times = random.one_of([2, 4, 12]);
+        Arcs {
+            onward: Kept::choose_lines(random, times),
+            back: Kept::choose_lines(random, times),
+        }
+    }
+
+    // Those of a stretch of each row.
+    fn keep_stretches(mut self, random: &mut Random, m: usize) -> Arcs {
+        self.onward.keep_stretch(random, m);
+        self.back.keep_stretch(random, m);
+        self
+    }
+
+    // Those but of one vertex: no arc leads from it, or none to it, or neither.
+    fn cut_off(random: &mut Random, m: usize) -> Arcs {
+        let mut kept = Kept::ALL;
+        let v = random.place(m);
+        let (closes_row, closes_column) = random.one_of([
+            (true, false),
+            (false, true),
+            (true, true),
+        ]);
+        if closes_row {
+            unmark(&mut kept.rows, v);
+        }
+        if closes_column {
+            unmark(&mut kept.columns, v);
+        }
+        Arcs {
+            onward: kept,
+            back: kept,
+        }
+    }
+
+    // All arcs, none, those of some rows and columns, of a stretch of each row, of both, or all but those of one vertex.
+    fn choose(random: &mut Random, m: usize) -> Arcs {
+        match random.up_to(5) {
+            0 => Arcs::ALL,
+            1 => Arcs::NONE,
+            2 => Arcs::choose_lines(random),
+            3 => Arcs::ALL.keep_stretches(random, m),
+            4 => Arcs::choose_lines(random).keep_stretches(random, m),
+            _ => Arcs::cut_off(random, m),
+        }
+    }
+
+    // Whether the arc from place i to place j is kept.
+    fn has(&self, i: usize, j: usize) -> bool {
+        if i < j {
+            self.onward.has(i, j)
+        } else {
+            self.back.has(i, j)
+        }
     }
 }
 
 // ---- closing
 
-fn are_kept(kept: &[u32], way: u32, i: u32, j: u32) -> bool {
-    let both = sum(i, j);
-    get(kept, sum(way, i)) != 0
-        && get(kept, sum(sum(way, COLUMN_MARKS), j)) != 0
-        && get(kept, sum(way, LEAST_SUM)) <= both
-        && both <= get(kept, sum(way, LARGEST_SUM))
+// The length of an arc if it is kept, else no path.
+fn kept_length(is_kept: bool, length: u32) -> u32 {
+    if is_kept { length } else { Network::NO_PATH }
 }
 
 // Whether place j comes after place i, round the piece.
-fn is_next(m: u32, i: u32, j: u32) -> bool {
-    let next = sum(i, 1);
-    if next == m {
-        return j == 0;
-    }
-    j == next
-}
-
-// Whether the arc from place i to place j is kept; in a ring only that to the next place is.
-fn is_kept(kept: &[u32], is_ring: bool, m: u32, i: u32, j: u32) -> bool {
-    if is_ring {
-        return is_next(m, i, j);
-    }
-    if i < j {
-        return are_kept(kept, 0, i, j);
-    }
-    are_kept(kept, BACK, i, j)
-}
-
-// Closes the arc at a place of a table, if it is one of two different places of m.
-fn close(m: u32, at: u32, table: &mut [u32]) {
-    let i = at / SIDE;
-    let j = at % SIDE;
-    if i != j && i < m && j < m {
-        put(table, at, Network::NO_PATH);
-    }
-}
-
-// Closes the arc at a place if it is not kept.
-fn close_other(kept: &[u32], is_ring: bool, m: u32, at: u32, table: &mut [u32]) {
-    if !is_kept(kept, is_ring, m, at / SIDE, at % SIDE) {
-        close(m, at, table);
-    }
-}
-
-fn close_others(kept: &[u32], is_ring: bool, m: u32, table: &mut [u32]) {
-    for at in 0..PLACES {
-        close_other(kept, is_ring, m, at, table);
-    }
+fn is_next(m: usize, i: usize, j: usize) -> bool {
+    let next = i.saturating_add(1);
+    j == if next == m { 0 } else { next }
 }
 
 // Closes tracks of a piece of m vertices; one piece in eight becomes a ring.
-pub(crate) fn close_tracks(seed: &mut u64, m: u32, table: &mut [u32]) {
-    let mut kept = [0u32; KEPT_PLACES];
-    let is_ring = up_to(seed, 7) == 0;
-    choose_kept(seed, m, &mut kept);
-    close_others(&kept, is_ring, m, table);
+pub(crate) fn close_tracks(random: &mut Random, m: usize, table: &mut [Row]) {
+    let is_ring = random.one_in(8);
+    let arcs = Arcs::choose(random, m);
+    if is_ring {
+        put_lengths(
+            table,
+            m,
+            |i, j, length| kept_length(is_next(m, i, j), length),
+        );
+    } else {
+        put_lengths(table, m, |i, j, length| kept_length(arcs.has(i, j), length));
+    }
 }
 
 // ---- halves
@@ -175,17 +187,15 @@ pub(crate) fn is_low(n: u32, v: u32) -> bool {
     v <= n / 2
 }
 
-// Closes the arc at a place of piece k if it leads from one half of all vertices to the other.
-fn close_between(n: u32, k: u32, m: u32, vertices: &[u32], at: u32, table: &mut [u32]) {
-    let from_low = is_low(n, entry(vertices, k, at / SIDE));
-    let to_low = is_low(n, entry(vertices, k, at % SIDE));
-    if from_low != to_low {
-        close(m, at, table);
-    }
+// Whether the vertex at a place of a piece is one of them.
+fn is_low_at(n: u32, vertices: &[u32], i: usize) -> bool {
+    vertices.get(i).is_some_and(|v| is_low(n, *v))
 }
 
-pub(crate) fn close_halves(n: u32, k: u32, m: u32, vertices: &[u32], table: &mut [u32]) {
-    for at in 0..PLACES {
-        close_between(n, k, m, vertices, at, table);
-    }
+// Closes the arcs of a piece from one half of all vertices to the other.
+pub(crate) fn close_halves(n: u32, vertices: &[u32], table: &mut [Row]) {
+    put_lengths(table, vertices.len(), |i, j, length| {
+        let is_kept = is_low_at(n, vertices, i) == is_low_at(n, vertices, j);
+        kept_length(is_kept, length)
+    });
 }

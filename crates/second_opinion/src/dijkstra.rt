@@ -1,102 +1,94 @@
 // Dijkstra's algorithm on the tables as they are; no path is no arc. Vertices count from 1; the distance of vertex v stands at v - 1.
-use crate::networks::Shape;
-use crate::numbers::{entry, fill, get, least, less, put, sum, times};
+use crate::plans::Plan;
+use crate::tables::{Row, SIDE};
 use bounds::Network;
 
-// The place below n of the least distance that is not settled, n where there is none.
-fn nearest(distances: &[u32], settled: &[u32], n: u32) -> u32 {
-    let mut best = n;
-    let mut low = Network::UNREACHED;
-    for i in 0..n {
-        let x = get(distances, i);
-        if get(settled, i) == 0 && x < low {
-            best = i;
-            low = x;
+// The distances from the source as far as they are known, and which of them are settled.
+#[derive(Drop)]
+pub(crate) struct Labelling {
+    pub(crate) distances: [u32; Network::LABEL_PLACES],
+    settled: [bool; Network::LABEL_PLACES],
+    pub(crate) reached: u32,
+}
+
+impl Labelling {
+    // Of the whole plan. Vertices that are not reached are left as they begin.
+    pub(crate) fn of(plan: &Plan, source: u32) -> Labelling {
+        let mut labelling = Labelling {
+            distances: [Network::UNREACHED; Network::LABEL_PLACES],
+            settled: [false; Network::LABEL_PLACES],
+            reached: 0,
+        };
+        labelling.shorten(source, 0);
+        for reached in 0..plan.shape.n {
+            labelling.reached = reached;
+            let Some((v, label)) = labelling.settle_nearest() else {
+                return labelling;
+            };
+            labelling.relax(plan, v, label);
+        }
+        labelling.reached = plan.shape.n;
+        labelling
+    }
+
+    // The vertex with the least distance of those that are not settled, and that distance; none if no such vertex is reached.
+    fn nearest(&self) -> Option<(u32, u32)> {
+        let mut nearest = None;
+        let mut least = Network::UNREACHED;
+        let known = self.distances.iter().zip(&self.settled);
+        for (v, (distance, is_settled)) in (1..=Network::MAX_VERTICES).zip(known) {
+            if !*is_settled && *distance < least {
+                nearest = Some((v, *distance));
+                least = *distance;
+            }
+        }
+        nearest
+    }
+
+    // Settles the nearest vertex, and answers it with its label; none where none is left to settle.
+    fn settle_nearest(&mut self) -> Option<(u32, u32)> {
+        let (v, label) = self.nearest()?;
+        if let Some(is_settled) = self.settled.get_mut(place_of(v)) {
+            *is_settled = true;
+        }
+        Some((v, label))
+    }
+
+    // A way of this length to a vertex; no other number is one.
+    fn shorten(&mut self, v: u32, length: u32) {
+        if let Some(distance) = self.distances.get_mut(place_of(v)) {
+            *distance = (*distance).min(length);
         }
     }
-    best
-}
 
-// An arc of this length, from a vertex with this label to the one whose distance stands at a place.
-fn relax_arc(label: u32, length: u32, at: u32, distances: &mut [u32]) {
-    if length == Network::NO_PATH {
-        return;
-    }
-    let x = least(get(distances, at), sum(label, length));
-    put(distances, at, x);
-}
-
-// The arcs from a place of a piece to all places of it, if the place holds the vertex; row `place` of the lengths holds theirs.
-fn relax_row(
-    sizes: &[u32],
-    vertices: &[u32],
-    lengths: &[u32],
-    place: u32,
-    v: u32,
-    label: u32,
-    distances: &mut [u32],
-) {
-    if get(vertices, place) != v {
-        return;
-    }
-    let k = place / Network::MAX_SIZE;
-    for j in 0..get(sizes, k) {
-        let at = less(entry(vertices, k, j), 1);
-        relax_arc(label, entry(lengths, place, j), at, distances);
-    }
-}
-
-// The arcs from a vertex. A place that is not used holds no vertex.
-fn relax(
-    p: u32,
-    sizes: &[u32],
-    vertices: &[u32],
-    lengths: &[u32],
-    v: u32,
-    label: u32,
-    distances: &mut [u32],
-) {
-    for place in 0..times(p, Network::MAX_SIZE) {
-        relax_row(sizes, vertices, lengths, place, v, label, distances);
-    }
-}
-
-// Settles the nearest vertex and relaxes its arcs; false where none is left to settle.
-fn settle_nearest(
-    shape: Shape,
-    sizes: &[u32],
-    vertices: &[u32],
-    lengths: &[u32],
-    settled: &mut [u32],
-    distances: &mut [u32],
-) -> bool {
-    let at = nearest(distances, settled, shape.n);
-    if at == shape.n {
-        return false;
-    }
-    put(settled, at, 1);
-    let v = sum(at, 1);
-    let label = get(distances, at);
-    relax(shape.p, sizes, vertices, lengths, v, label, distances);
-    true
-}
-
-// Fills in the distances from the source, and answers how many vertices are reached.
-pub(crate) fn label_plainly(
-    shape: Shape,
-    sizes: &[u32],
-    vertices: &[u32],
-    lengths: &[u32],
-    source: u32,
-    distances: &mut [u32],
-) -> u32 {
-    let mut settled = [0u32; Network::LABEL_PLACES];
-    fill(distances, Network::UNREACHED);
-    put(distances, less(source, 1), 0);
-    for reached in 0..shape.n {
-        if !settle_nearest(shape, sizes, vertices, lengths, &mut settled, distances) {
-            return reached;
+    // The arcs of a row of lengths, from a vertex with this label to those of its piece.
+    fn relax_row(&mut self, label: u32, size: usize, vertices: &Row, lengths: &Row) {
+        for (v, length) in vertices.iter().zip(lengths).take(size) {
+            if *length != Network::NO_PATH {
+                self.shorten(*v, label.saturating_add(*length));
+            }
         }
     }
-    shape.n
+
+    // The arcs of a piece from a vertex, if it has a place there. A place that is not used holds no vertex.
+    fn relax_piece(&mut self, v: u32, label: u32, size: usize, vertices: &Row, table: &[Row]) {
+        for (from, lengths) in vertices.iter().zip(table) {
+            if *from == v {
+                self.relax_row(label, size, vertices, lengths);
+            }
+        }
+    }
+
+    // The arcs from a vertex.
+    fn relax(&mut self, plan: &Plan, v: u32, label: u32) {
+        let tables = plan.vertices.iter().zip(plan.lengths.chunks_exact(SIDE));
+        for (size, (vertices, table)) in plan.sizes.iter().zip(tables).take(plan.shape.p as usize) {
+            self.relax_piece(v, label, *size as usize, vertices, table);
+        }
+    }
+}
+
+// The place of a vertex's distance.
+fn place_of(v: u32) -> usize {
+    (v as usize).saturating_sub(1)
 }

@@ -1,117 +1,170 @@
-// Tables of lengths that every check accepts. Each generator fills a whole table, rows of 24; a piece of m vertices takes the first m rows and
-// columns of it.
-use crate::graphs::{FAR, GRAPH_PLACES, RIM, arc, fill_distances};
-use crate::numbers::{apart, entry, fill, get, less, one_in, put, sum, up_to};
+// Tables of lengths that every check accepts. A piece of m vertices uses the first m rows and columns of its table, whose rows have 24 places.
+use crate::graphs::{FAR, Graph, Inside, RIM, Rim};
+use crate::random::Random;
+use crate::rows::{at, entry};
 use bounds::Network;
+use std::array;
 
-// The places of a row and of a table, as numbers of a loop.
-pub(crate) const SIDE: u32 = Network::MAX_SIZE;
+// The places of a row.
+pub(crate) const SIDE: usize = Network::ROW_PLACES;
 
-pub(crate) const PLACES: u32 = SIDE * SIDE;
-
-// The weights of a graded table: of rows, of columns, and of the blocks above and below the diagonal.
-const COLUMN_WEIGHTS: u32 = SIDE;
-
-const UPPER_WEIGHTS: u32 = 2 * SIDE;
-
-const LOWER_WEIGHTS: u32 = 3 * SIDE;
-
-const WEIGHTS: usize = 4 * Network::ROW_PLACES;
+// A row of a table; a table is a slice of them.
+pub(crate) type Row = [u32; SIDE];
 
 // The longest step along a line: as many as there are places in a row are no longer than the largest length.
-const MAX_STEP: u32 = Network::MAX_LENGTH / SIDE;
+const MAX_STEP: u32 = Network::MAX_LENGTH / Network::MAX_SIZE;
 
 // One step of a graded table in so many is not 0.
-const CLIMBS: u32 = 4;
+const CLIMBS: usize = 4;
 
 // The largest weight and step of a graded table: three weights and a step at each place are no longer than the largest length.
 const MAX_WEIGHT: u32 = Network::MAX_LENGTH / 5;
 
-const MAX_CLIMB: u32 = 2 * MAX_WEIGHT / PLACES;
+const MAX_CLIMB: u32 = 2 * MAX_WEIGHT / (Network::MAX_SIZE * Network::MAX_SIZE);
 
-// The kinds of tables; the planar ones come first.
-pub(crate) const PLANAR_KINDS: u32 = 2;
+// ---- kinds
 
-pub(crate) const KINDS: u32 = 8;
+// A planar piece; a line of track with vertices around it; the same length everywhere; or grades.
+#[derive(Clone, Copy)]
+pub(crate) enum Kind {
+    Planar(Inside),
+    Line,
+    Constant,
+    Graded(Grades),
+}
+
+// The largest weight and the largest step of a graded table, and where its lengths are counted from.
+#[derive(Clone, Copy)]
+pub(crate) struct Grades {
+    top_weight: u32,
+    top_step: u32,
+    start: Start,
+}
+
+// Up from 0, or down from the largest length.
+#[derive(Clone, Copy)]
+enum Start {
+    Zero,
+    Largest,
+}
+
+// The kinds of planar pieces.
+pub(crate) const PLANAR_KINDS: [Kind; 2] = [
+    Kind::Planar(Inside::Grid),
+    Kind::Planar(Inside::Chords),
+];
+
+// All kinds.
+pub(crate) const KINDS: [Kind; 8] = [
+    Kind::Planar(Inside::Grid),
+    Kind::Planar(Inside::Chords),
+    Kind::Line,
+    Kind::Constant,
+    Kind::Graded(Grades {
+        top_weight: 1,
+        top_step: 1,
+        start: Start::Zero,
+    }),
+    Kind::Graded(Grades {
+        top_weight: 0,
+        top_step: 1,
+        start: Start::Zero,
+    }),
+    Kind::Graded(Grades {
+        top_weight: MAX_WEIGHT,
+        top_step: MAX_CLIMB,
+        start: Start::Zero,
+    }),
+    Kind::Graded(Grades {
+        top_weight: 2,
+        top_step: 3,
+        start: Start::Largest,
+    }),
+];
+
+// ---- places
+
+// Changes the lengths that a piece of m vertices uses: of the arc between two places to what their places and the length before give, on the
+// diagonal to 0.
+pub(crate) fn put_lengths<F: Fn(usize, usize, u32) -> u32>(table: &mut [Row], m: usize, length: F)
+    requires { F.IsAlwaysCallable length }
+{
+    for (i, row) in table.iter_mut().take(m).enumerate() {
+        put_row(row, m, i, &length);
+    }
+}
+
+// Changes what a piece of m vertices uses of row i.
+fn put_row<F: Fn(usize, usize, u32) -> u32>(row: &mut Row, m: usize, i: usize, length: &F)
+    requires { F.IsAlwaysCallable length.now }
+{
+    for (j, place) in row.iter_mut().take(m).enumerate() {
+        *place = if i == j { 0 } else { length(i, j, *place) };
+    }
+}
 
 // ---- planar pieces
 
-// Chooses node t of the rim or passes it over, so that each choice of m nodes is as likely as any other, and answers how many are chosen.
-fn choose_node(seed: &mut u64, m: u32, chosen: u32, t: u32, nodes: &mut [u32]) -> u32 {
-    if up_to(seed, less(RIM - 1, t)) >= less(m, chosen) {
-        return chosen;
-    }
-    put(nodes, chosen, t);
-    sum(chosen, 1)
-}
-
-// Chooses m nodes of the rim, clockwise.
-fn choose_nodes(seed: &mut u64, m: u32, nodes: &mut [u32]) {
+// Chooses m nodes of the rim, clockwise: a node is chosen or passed over so that each choice is as likely as any other.
+fn choose_nodes(random: &mut Random, m: usize) -> [usize; RIM] {
+    let mut nodes = [0; RIM];
     let mut chosen = 0;
     for t in 0..RIM {
-        chosen = choose_node(seed, m, chosen, t, nodes);
+        if random.place(RIM - t) < m.saturating_sub(chosen) {
+            nodes[chosen] = t;
+            chosen += 1;
+        }
     }
+    nodes
 }
 
-// The length of a way: no path where there is none.
-fn length_of(distance: u32) -> u32 {
-    if distance == FAR {
-        return Network::NO_PATH;
-    }
-    distance
-}
-
-fn copy_distances(graph: &[u32], nodes: &[u32], table: &mut [u32]) {
-    for at in 0..PLACES {
-        let x = arc(graph, get(nodes, at / SIDE), get(nodes, at % SIDE));
-        put(table, at, length_of(x));
-    }
-}
-
-// The distances inside a planar piece, a grid or a ring.
-fn fill_planar(seed: &mut u64, m: u32, is_grid: bool, is_whole: bool, table: &mut [u32]) {
-    let mut graph = [0u32; GRAPH_PLACES];
-    let mut nodes = [0u32; Network::ROW_PLACES];
-    fill_distances(seed, &mut graph, is_grid, is_whole);
-    choose_nodes(seed, m, &mut nodes);
-    copy_distances(&graph, &nodes, table);
+// The distances inside a planar piece; where there is no way, no path.
+fn fill_planar(random: &mut Random, m: usize, inside: Inside, rim: Rim, table: &mut [Row]) {
+    let graph = Graph::of_distances(random, inside, rim);
+    let nodes = choose_nodes(random, m);
+    put_lengths(table, m, |i, j, _| {
+        let distance = graph.arc(at(&nodes, i, 0), at(&nodes, j, 0));
+        if distance == FAR {
+            Network::NO_PATH
+        } else {
+            distance
+        }
+    });
 }
 
 // ---- vertices around a line of track
 
 // Points that rise up to a random place and fall after it.
-fn choose_points(seed: &mut u64, points: &mut [u32]) {
-    let peak = up_to(seed, SIDE);
-    let mut x = 0;
-    for i in 0..SIDE {
-        let step = up_to(seed, MAX_STEP);
+fn choose_points(random: &mut Random) -> Row {
+    let peak = random.place(SIDE + 1);
+    let mut points = [0; SIDE];
+    let mut x = 0u32;
+    for (i, point) in points.iter_mut().enumerate() {
+        let step = random.up_to(MAX_STEP);
         x = if i < peak {
-            sum(x, step)
+            x.saturating_add(step)
         } else {
-            less(x, step)
+            x.saturating_sub(step)
         };
-        put(points, i, x);
+        *point = x;
     }
-}
-
-fn fill_apart(points: &[u32], table: &mut [u32]) {
-    for at in 0..PLACES {
-        let x = apart(get(points, at / SIDE), get(points, at % SIDE));
-        put(table, at, x);
-    }
+    points
 }
 
 // The lengths along the line.
-fn fill_line(seed: &mut u64, table: &mut [u32]) {
-    let mut points = [0u32; Network::ROW_PLACES];
-    choose_points(seed, &mut points);
-    fill_apart(&points, table);
+fn fill_line(random: &mut Random, m: usize, table: &mut [Row]) {
+    let points = choose_points(random);
+    put_lengths(
+        table,
+        m,
+        |i, j, _| at(&points, i, 0).abs_diff(at(&points, j, 0)),
+    );
 }
 
 // ---- graded tables
 
 // The middle of the split that parts two places of a piece of m: each split of the halving has its own. 0 where they are the same.
-fn middle(m: u32, i: u32, j: u32) -> u32 {
+fn middle(m: usize, i: usize, j: usize) -> usize {
     let mut first = 0;
     let mut end = m;
     while end - first > 1 {
@@ -130,111 +183,101 @@ fn middle(m: u32, i: u32, j: u32) -> u32 {
     0
 }
 
-// What the row, the column and the block of a place weigh.
-fn weight(weights: &[u32], m: u32, i: u32, j: u32) -> u32 {
-    let side = if i < j { UPPER_WEIGHTS } else { LOWER_WEIGHTS };
-    let line = sum(get(weights, i), get(weights, sum(COLUMN_WEIGHTS, j)));
-    sum(line, get(weights, sum(side, middle(m, i, j))))
+// Numbers from 0 to `top`.
+fn random_row(random: &mut Random, top: u32) -> Row {
+    array::from_fn(|_| random.up_to(top))
 }
 
-pub(crate) fn fill_random(seed: &mut u64, top: u32, s: &mut [u32]) {
-    let mut i = 0;
-    while i < s.len() {
-        s[i] = up_to(seed, top);
-        i += 1;
+// The weights of rows, of columns, and of the blocks above and below the diagonal.
+#[derive(Drop)]
+struct Weights {
+    rows: Row,
+    columns: Row,
+    upper: Row,
+    lower: Row,
+}
+
+impl Weights {
+    // Weights from 0 to `top`.
+    fn choose(random: &mut Random, top: u32) -> Weights {
+        Weights {
+            rows: random_row(random, top),
+            columns: random_row(random, top),
+            upper: random_row(random, top),
+            lower: random_row(random, top),
+        }
+    }
+
+    // What the row, the column and the block of a place weigh.
+    fn weight(&self, m: usize, i: usize, j: usize) -> u32 {
+        let blocks = if i < j { &self.upper } else { &self.lower };
+        at(&self.rows, i, 0)
+            .saturating_add(at(&self.columns, j, 0))
+            .saturating_add(at(blocks, middle(m, i, j), 0))
     }
 }
 
-// What a row of steps adds up to at column j: a step now and then.
-fn climb(seed: &mut u64, top: u32, along: u32, j: u32) -> u32 {
-    let before = if j == 0 { 0 } else { along };
-    if one_in(seed, CLIMBS) {
-        return sum(before, up_to(seed, top));
+// A row of steps below another: a step now and then, added up from the left and from above.
+fn climb(random: &mut Random, top: u32, above: &Row) -> Row {
+    let mut row = *above;
+    let mut along = 0u32;
+    for place in row.iter_mut() {
+        if random.one_in(CLIMBS) {
+            along = along.saturating_add(random.up_to(top));
+        }
+        *place = place.saturating_add(along);
     }
-    before
+    row
 }
 
-// Adds up random steps to the left of and above each place, so that every four neighbours bend the same way.
-fn fill_steps(seed: &mut u64, top: u32, steps: &mut [u32]) {
-    let mut along = 0;
-    for at in 0..PLACES {
-        along = climb(seed, top, along, at % SIDE);
-        let above = if at < SIDE { 0 } else { get(steps, at - SIDE) };
-        put(steps, at, sum(above, along));
+// Random steps, added up: the amount by which a row exceeds the one above it never falls from left to right.
+fn choose_steps(random: &mut Random, top: u32) -> [Row; SIDE] {
+    let mut steps = [[0; SIDE]; SIDE];
+    let mut above = [0; SIDE];
+    for row in steps.iter_mut() {
+        above = climb(random, top, &above);
+        *row = above;
     }
+    steps
 }
 
-// A length counted up from 0, or down from the largest: the steps are then mirrored, so that they bend the same way again.
-fn graded(weights: &[u32], steps: &[u32], m: u32, is_high: bool, i: u32, j: u32) -> u32 {
-    let level = weight(weights, m, i, j);
-    if is_high {
-        let down = sum(level, entry(steps, i, less(SIDE - 1, j)));
-        return less(Network::MAX_LENGTH, down);
+// Tables with no triangle rule: a weight of its own is added to all lengths of a block. Where lengths are counted down, the columns of the steps are
+// mirrored, so that the amount by which a row exceeds the one above it again never falls from left to right.
+fn fill_graded(random: &mut Random, m: usize, grades: Grades, table: &mut [Row]) {
+    let weights = Weights::choose(random, grades.top_weight);
+    let steps = choose_steps(random, grades.top_step);
+    match grades.start {
+        Start::Zero => put_lengths(table, m, |i, j, _| {
+            weights
+                .weight(m, i, j)
+                .saturating_add(entry(&steps, i, j, 0))
+        }),
+        Start::Largest => put_lengths(table, m, |i, j, _| {
+            let mirrored = entry(&steps, i, (SIDE - 1).saturating_sub(j), 0);
+            Network::MAX_LENGTH.saturating_sub(weights.weight(m, i, j).saturating_add(mirrored))
+        }),
     }
-    sum(level, entry(steps, i, j))
-}
-
-fn fill_levels(weights: &[u32], steps: &[u32], m: u32, is_high: bool, table: &mut [u32]) {
-    for at in 0..PLACES {
-        let x = graded(weights, steps, m, is_high, at / SIDE, at % SIDE);
-        put(table, at, x);
-    }
-}
-
-// Tables with no triangle rule: each block lies on a level of its own.
-fn fill_graded(seed: &mut u64, m: u32, top: u32, top_step: u32, is_high: bool, table: &mut [u32]) {
-    let mut weights = [0u32; WEIGHTS];
-    let mut steps = [0u32; Network::TABLE_PLACES];
-    fill_random(seed, top, &mut weights);
-    fill_steps(seed, top_step, &mut steps);
-    fill_levels(&weights, &steps, m, is_high, table);
 }
 
 // ---- all kinds
 
 // The same length everywhere: zeros, or the largest, or any.
-fn fill_constant(seed: &mut u64, table: &mut [u32]) {
-    let x = match up_to(seed, 3) {
+fn fill_constant(random: &mut Random, m: usize, table: &mut [Row]) {
+    let constant = match random.up_to(3) {
         0 => 0,
         1 => Network::MAX_LENGTH,
-        _ => up_to(seed, Network::MAX_LENGTH),
+        _ => random.up_to(Network::MAX_LENGTH),
     };
-    fill(table, x);
-}
-
-fn fill_kind(seed: &mut u64, kind: u32, is_whole: bool, m: u32, table: &mut [u32]) {
-    match kind {
-        0 => fill_planar(seed, m, true, is_whole, table),
-        1 => fill_planar(seed, m, false, is_whole, table),
-        2 => fill_line(seed, table),
-        3 => fill_constant(seed, table),
-        4 => fill_graded(seed, m, 1, 1, false, table),
-        5 => fill_graded(seed, m, 0, 1, false, table),
-        6 => fill_graded(seed, m, MAX_WEIGHT, MAX_CLIMB, false, table),
-        _ => fill_graded(seed, m, 2, 3, true, table),
-    }
-}
-
-// Copies a place that a piece of m vertices uses, with 0 on the diagonal.
-fn copy_used(whole: &[u32], m: u32, at: u32, table: &mut [u32]) {
-    let i = at / SIDE;
-    let j = at % SIDE;
-    if i >= m || j >= m {
-        return;
-    }
-    let x = if i == j { 0 } else { get(whole, at) };
-    put(table, at, x);
-}
-
-fn copy_table(whole: &[u32], m: u32, table: &mut [u32]) {
-    for at in 0..PLACES {
-        copy_used(whole, m, at, table);
-    }
+    put_lengths(table, m, |_, _, _| constant);
 }
 
 // Fills the places of a table that a piece of m vertices uses. Where the rim of a planar piece need not be whole, some lengths are no path.
-pub(crate) fn fill_table(seed: &mut u64, kind: u32, is_whole: bool, m: u32, table: &mut [u32]) {
-    let mut whole = [0u32; Network::TABLE_PLACES];
-    fill_kind(seed, kind, is_whole, m, &mut whole);
-    copy_table(&whole, m, table);
+// Kinds are drawn as data and told apart here alone, so that a trait would only be more text.
+pub(crate) fn fill_table(random: &mut Random, kind: Kind, rim: Rim, m: usize, table: &mut [Row]) {
+    match kind {
+        Kind::Planar(inside) => fill_planar(random, m, inside, rim, table),
+        Kind::Line => fill_line(random, m, table),
+        Kind::Constant => fill_constant(random, m, table),
+        Kind::Graded(grades) => fill_graded(random, m, grades, table),
+    }
 }

@@ -1,4 +1,4 @@
--- `second_opinion::tables::middle` is safe and ends: `end - first` falls at each turn.
+-- `second_opinion::tables::middle` ends: `end - first` falls at each turn.
 use Rattle.std.proofs.Common.{◌-◌, ◌≤◌}
 use Rattle.second_opinion.proofs.tables.middle.Given as goal
 

@@ -1,6 +1,0 @@
--- In `read_rows` the place that follows stays inside the text.
-use Rattle.std.proofs.Common.{length, ◌≤◌}
-use Rattle.replay_sessions.proofs.read_rows.Given as goal
-
-abbrev pub invariant-loop-i : goal.invariant-loop-i
-invariant-loop-i l = (l.at ≤ l.next) × (l.next ≤ length l.text)

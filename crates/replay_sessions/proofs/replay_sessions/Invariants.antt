@@ -1,9 +1,0 @@
--- `replay_sessions` ends with the number of sessions that was read.
-use Rattle.std.proofs.Common.{length, ◌≤◌}
-use Rattle.replay_sessions.proofs.replay_sessions.Given as goal
-
-abbrev pub invariant-loop-left : goal.invariant-loop-left
-invariant-loop-left g l = l.at ≤ length l.text
-
-abbrev pub decreases-loop-left : goal.decreases-loop-left
-decreases-loop-left g l = l.left

@@ -1,0 +1,34 @@
+-- The numbers of a text: its longest runs of digits, in order. Every other byte only separates.
+use Rattle.std.specs.Prelude.{◌≡◌, ℕ, ◌<◌, ◌+◌, ◌^◌, ◌-◌, ◌*◌, List, [], ◌∷◌, Option, Some, None, cond, min, get_or}
+use Rattle.std.specs.Char.{is_ascii_digit}
+use Rattle.replay_text.specs.declared.Numbers.{Numbers}
+
+-- the number with one digit more, or the largest of 32 bits where it does not fit
+abbrev pub appended : ℕ → ℕ → ℕ
+appended value digit = min (10 * value + (digit - 48)) (2 ^ 32 - 1)
+
+-- the numbers of a text behind the digits of a number, or behind none
+abbrev pub numbers_from : Option ℕ → List ℕ → List ℕ
+numbers_from None [] = []
+numbers_from (Some value) [] = value ∷ []
+numbers_from None (b ∷ bs) = cond (is_ascii_digit b) (numbers_from (Some (appended 0 b)) bs) (numbers_from None bs)
+numbers_from (Some value) (b ∷ bs) = cond (is_ascii_digit b) (numbers_from (Some (appended value b)) bs) (value ∷ numbers_from None bs)
+
+abbrev pub numbers_of : List ℕ → List ℕ
+numbers_of text = numbers_from None text
+
+-- the bytes and the numbers that are left
+abbrev pub text_left : Numbers → List ℕ
+text_left numbers = numbers.text.now
+
+abbrev pub numbers_left : Numbers → List ℕ
+numbers_left numbers = numbers_of (text_left numbers)
+
+-- the number at a place among them, 0 where there is none
+abbrev pub number_at : List ℕ → ℕ → ℕ
+number_at ns k = get_or ns k 0
+
+-- the first columns of the first rows hold the numbers, row by row
+abbrev pub HoldsNumbers : List (List ℕ) → ℕ → ℕ → List ℕ → Type 0
+HoldsNumbers rectangle rows cols ns =
+    (i : ℕ) → i < rows → (j : ℕ) → j < cols → get_or (get_or rectangle i []) j 0 ≡ number_at ns (i * cols + j)
