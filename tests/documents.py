@@ -45,20 +45,20 @@ STATED = [
 
 # What the line of each refusal must say, in the table of README.md and in the list of the C header.
 REFUSALS = {
-    "Cause.NONE": "accepted",
-    "Cause.BUFFER": "buffer",
-    "Cause.TEXT": "{Text.MAX_BYTES:,} bytes",
-    "Cause.LAYOUT": "layout",
-    "Cause.BOUNDS": "bounds",
-    "Cause.VERTEX": "1 to n",
-    "Cause.LENGTH": "above {Network.MAX_LENGTH:,}",
-    "Cause.BLOCK": "check",
-    "Cause.SOURCE": "source",
-    "Cause.TARGET": "target",
-    "Code.CALL": "kind",
-    "Code.ROW_AGAIN": "already",
-    "Code.LABEL": "above {Network.MAX_LABEL:,}",
-    "Code.NOTHING": "nothing",
+    "Cause.Accepted": "accepted",
+    "Cause.Buffer": "buffer",
+    "Cause.Text": "{Text.MAX_BYTES:,} bytes",
+    "Cause.Layout": "layout",
+    "Cause.Bounds": "bounds",
+    "Cause.Vertex": "1 to n",
+    "Cause.Length": "above {Network.MAX_LENGTH:,}",
+    "Cause.Block": "check",
+    "Cause.Source": "source",
+    "Cause.Target": "target",
+    "Code.Call": "kind",
+    "Code.RowAgain": "already",
+    "Code.Label": "above {Network.MAX_LABEL:,}",
+    "Code.Nothing": "nothing",
 }
 
 # The constants of the C header and of the Rust crate, by the code's. Those of the stack are measured by host/tests/stack.
@@ -75,7 +75,7 @@ HOST_CONSTANTS = {
     "RECTANGLE": "Session.RECTANGLE_PLACES",
     "INDEX": "Session.INDEX_PLACES",
     "INDEX_ROW": "Network.INDEX_PLACES",
-    "NOTHING": "Code.NOTHING",
+    "NOTHING": "Code.Nothing",
     "CALLS": "Session.CALL_PLACES",
     "ANSWERS": "Session.ANSWER_PLACES",
     "INTERVALS": "Session.INTERVAL_PLACES",
@@ -131,7 +131,7 @@ def host_names():
 
 
 def constants():
-    """The constants of bounds, by their type, and those of answer."""
+    """The constants of bounds, by their type, and those of answer; the causes and the codes, enums of definitions."""
     known = {}
     for owner in ("bounds", "answer"):
         text = read(f"crates/{owner}/src/lib.rt")
@@ -140,6 +140,11 @@ def constants():
             if name:
                 term = re.sub(r" as \w+|\s", "", found[3]).replace("::", ".")
                 setattr(known.setdefault(owner, SimpleNamespace()), name, eval(term, {}, known))
+    for enum in ("Cause", "Code"):
+        cases = re.search(rf"^pub enum {enum} {{(.*?)^}}", read("crates/definitions/src/lib.rt"), re.M | re.S)[1]
+        known[enum] = SimpleNamespace(**{name: int(number) for name, number in re.findall(r"(\w+) = (\d+),", cases)})
+    # what an answer says where nothing is refused
+    known["Cause"].Accepted = 0
     return known
 
 
@@ -323,9 +328,9 @@ def main():
     check_crates()
     check_bounds()
     causes = [f"Cause.{name}" for name in vars(CONSTANTS["Cause"])]
-    codes = [f"Code.{name}" for name in vars(CONSTANTS["Code"]) if name != "DONE"]
+    codes = [f"Code.{name}" for name in vars(CONSTANTS["Code"])]
     # a text is not turned away for a buffer
-    check_refusals(README, rows(README, "| number | cause |"), set(causes) - {"Cause.NONE", "Cause.BUFFER"})
+    check_refusals(README, rows(README, "| number | cause |"), set(causes) - {"Cause.Accepted", "Cause.Buffer"})
     check_refusals(HEADER, re.findall(r"^ \*   (\d+) +(.*)", read(HEADER), re.M), causes + codes)
     check_host()
     for found in faults:
