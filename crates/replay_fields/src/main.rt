@@ -3,8 +3,12 @@
 // outside vectors.
 #![tactic(auto)]
 
+ghost use Rattle.std.specs.Prelude.{◌≡◌, length};
+
 use bounds::Text;
+use replay_text::{INPUT_PLACES, MAX_BYTES};
 use std::io;
+use std::io::Read;
 
 // Writes what the field at a place of the text says.
 fn write_reading(rt: &impl Print, text: &[u8], at: usize) {
@@ -21,6 +25,21 @@ fn replay_lines(rt: &impl Print, text: &[u8]) {
     }
 }
 
+// Zeros, of which a proof sees the number alone.
+fn input_buffer() -> [u8; INPUT_PLACES]
+    ensures { 1048577 ≡ length result }
+{
+    [0; INPUT_PLACES]
+}
+
 fn main(rt: HostRuntime) -> io::Result<()> {
-    replay_text::replay_input(&rt, |text| replay_lines(&rt, text))
+    let mut input = input_buffer();
+    let mut places: &mut [u8] = &mut input;
+    let read = io::copy(&mut rt.reader().take(INPUT_PLACES as u64), &mut places)?;
+    if read > MAX_BYTES as u64 {
+        let _ = println!(rt; "the input is longer than its buffer");
+        return Ok(());
+    }
+    replay_lines(&rt, &input[..read as usize]);
+    Ok(())
 }

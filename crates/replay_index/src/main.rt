@@ -4,10 +4,13 @@
 // its error; a write that fails is passed over. The files `stdin` and `stdout` are the outside vectors.
 #![tactic(auto)]
 
+ghost use Rattle.std.specs.Prelude.{◌≡◌, length};
+
 use bounds::{Network, Session};
 use definitions::{Cause, Code};
-use replay_text::Numbers;
+use replay_text::{INPUT_PLACES, MAX_BYTES, Numbers};
 use std::io;
+use std::io::Read;
 
 // What a buffer holds before: a place that must be written, and one that must not be read, show.
 const FILLER: u8 = 7;
@@ -83,13 +86,44 @@ fn replay_question(rt: &impl Print, numbers: &mut Numbers<'_>, block: &Block) {
     write_least(rt, block.ask(row, first, end));
 }
 
-// Replays a block with its questions.
+// Replays a block with its questions; a text that ends early has fewer than it says.
 fn replay_block(rt: &impl Print, numbers: &mut Numbers<'_>) {
     let mut block = Block::read(numbers);
     block.build(rt);
-    numbers.read_each(|numbers| replay_question(rt, numbers, &block));
+    for _ in 0..numbers.number() {
+        if numbers.is_at_end() {
+            return;
+        }
+        replay_question(rt, numbers, &block);
+    }
+}
+
+// Replays the blocks of a text; a text that ends early has fewer than it says.
+fn replay_blocks(rt: &impl Print, text: &[u8]) {
+    let mut numbers = Numbers::new(text);
+    for _ in 0..numbers.number() {
+        if numbers.is_at_end() {
+            return;
+        }
+        replay_block(rt, &mut numbers);
+    }
+}
+
+// Zeros, of which a proof sees the number alone.
+fn input_buffer() -> [u8; INPUT_PLACES]
+    ensures { 1048577 ≡ length result }
+{
+    [0; INPUT_PLACES]
 }
 
 fn main(rt: HostRuntime) -> io::Result<()> {
-    replay_text::replay_each(&rt, |numbers| replay_block(&rt, numbers))
+    let mut input = input_buffer();
+    let mut places: &mut [u8] = &mut input;
+    let read = io::copy(&mut rt.reader().take(INPUT_PLACES as u64), &mut places)?;
+    if read > MAX_BYTES as u64 {
+        let _ = println!(rt; "the input is longer than its buffer");
+        return Ok(());
+    }
+    replay_blocks(&rt, &input[..read as usize]);
+    Ok(())
 }

@@ -5,10 +5,13 @@
 // `stdin` and `stdout` are the outside vectors.
 #![tactic(auto)]
 
+ghost use Rattle.std.specs.Prelude.{◌≡◌, length};
+
 use bounds::{Network, Session};
 use definitions::SessionAnswer;
-use replay_text::Numbers;
+use replay_text::{INPUT_PLACES, MAX_BYTES, Numbers};
 use std::io;
+use std::io::Read;
 
 // What a buffer holds before a session: a place that must be left or written shows.
 const FILLER: u32 = 7;
@@ -160,6 +163,32 @@ fn replay_session(rt: &impl Print, numbers: &mut Numbers<'_>) {
     write_session(rt, answer, given.count, &written);
 }
 
+// Replays the sessions of a text; a text that ends early has fewer than it says.
+fn replay_sessions(rt: &impl Print, text: &[u8]) {
+    let mut numbers = Numbers::new(text);
+    for _ in 0..numbers.number() {
+        if numbers.is_at_end() {
+            return;
+        }
+        replay_session(rt, &mut numbers);
+    }
+}
+
+// Zeros, of which a proof sees the number alone.
+fn input_buffer() -> [u8; INPUT_PLACES]
+    ensures { 1048577 ≡ length result }
+{
+    [0; INPUT_PLACES]
+}
+
 fn main(rt: HostRuntime) -> io::Result<()> {
-    replay_text::replay_each(&rt, |numbers| replay_session(&rt, numbers))
+    let mut input = input_buffer();
+    let mut places: &mut [u8] = &mut input;
+    let read = io::copy(&mut rt.reader().take(INPUT_PLACES as u64), &mut places)?;
+    if read > MAX_BYTES as u64 {
+        let _ = println!(rt; "the input is longer than its buffer");
+        return Ok(());
+    }
+    replay_sessions(&rt, &input[..read as usize]);
+    Ok(())
 }

@@ -1,15 +1,16 @@
-// What the programs that run outside vectors share: the numbers of a text, and how a program is given its text.
+// What the programs that run outside vectors share: the numbers of a text, and how long one may be. Each program reads its input itself, since no contract
+// fixes what standard input holds.
 #![tactic(auto)]
 
 ghost use Rattle.std.specs.Prelude.{◌≡◌, [], IsTrue, ◌↔◌, ◌*◌, ◌<◌, ◌≤◌, drop, length, slice_index, EachIndex};
 ghost use Rattle.std.specs.Char.{is_ascii_digit};
-ghost use Rattle.replay_text.specs.TextNumbers.{HoldsNumbers, appended, number_at, numbers_left, text_left};
+ghost use Rattle.replay_text.specs.TextNumbers.{HoldsNumbers, KeepsOthers, Yields, appended, behind_number, behind_numbers, number_at, numbers_left, text_left};
 
-use std::io;
-use std::io::Read;
+// The longest input.
+pub const MAX_BYTES: usize = 1048576;
 
-// The longest input. One byte more is read, which shows that an input is longer.
-const MAX_BYTES: usize = 1048576;
+// One place more shows that an input is longer.
+pub const INPUT_PLACES: usize = MAX_BYTES + 1;
 
 // The numbers of a text, one after the other. A number is a longest run of digits; every other byte only separates.
 #[derive(Drop)]
@@ -46,6 +47,7 @@ impl<'a> Numbers<'a> {
     pub fn number(&mut self) -> u32
         ensures value { result ≡ number_at (numbers_left self.old) 0 }
         ensures others { numbers_left self.new ≡ drop 1 (numbers_left self.old) }
+        ensures text { text_left self.new ≡ behind_number (text_left self.old) }
     {
         self.next().unwrap_or(0)
     }
@@ -54,6 +56,7 @@ impl<'a> Numbers<'a> {
     pub fn fill(&mut self, places: &mut [u32])
         ensures filled { EachIndex places.new (λ k. slice_index places.new k ≡ number_at (numbers_left self.old) k) }
         ensures others { numbers_left self.new ≡ drop (length places.old) (numbers_left self.old) }
+        ensures text { text_left self.new ≡ behind_numbers (length places.old) (text_left self.old) }
     {
         for place in places.iter_mut() {
             *place = self.number();
@@ -68,8 +71,10 @@ impl<'a> Numbers<'a> {
         rectangle: &mut [[u32; N]],
     )
         ensures filled { rows ≤ length rectangle.old → cols ≤ N → HoldsNumbers rectangle.new rows cols (numbers_left self.old) }
+        ensures kept { rows ≤ length rectangle.old → cols ≤ N → KeepsOthers rectangle.old rectangle.new rows cols }
         ensures others { rows ≤ length rectangle.old → cols ≤ N → numbers_left self.new ≡ drop (rows * cols) (numbers_left self.old) }
-        ensures too_many { (rows ≤ length rectangle.old → N < cols) → (rectangle.new ≡ rectangle.old) × (numbers_left self.new ≡ numbers_left self.old) }
+        ensures text { rows ≤ length rectangle.old → cols ≤ N → text_left self.new ≡ behind_numbers (rows * cols) (text_left self.old) }
+        ensures too_many { (rows ≤ length rectangle.old → N < cols) → (rectangle.new ≡ rectangle.old) × (text_left self.new ≡ text_left self.old) }
     {
         if rows > rectangle.len() || cols > N {
             return;
@@ -78,27 +83,14 @@ impl<'a> Numbers<'a> {
             self.fill(&mut row[..cols]);
         }
     }
-
-    // Reads how many things follow, and hands the numbers on for each; a text that ends early has fewer than it says.
-    pub fn read_each<F: FnMut(&mut Numbers<'a>)>(&mut self, mut read: F)
-        requires { F.IsAlwaysCallable read }
-    {
-        let count = self.number();
-        for _ in 0..count {
-            if self.is_at_end() {
-                return;
-            }
-            read(self);
-        }
-    }
 }
 
 impl<'a> Iterator for Numbers<'a> {
-    ghost use Rattle.std.specs.Iterator.{YieldsFirst, item_count};
+    ghost use Rattle.std.specs.Iterator.{item_count};
 
     type Item = u32;
 
-    ghost next_gives = { YieldsFirst numbers_left };
+    ghost next_gives = { Yields };
 
     ghost remaining = { item_count numbers_left };
 
@@ -115,40 +107,4 @@ impl<'a> Iterator for Numbers<'a> {
         }
         number
     }
-}
-
-// Hands standard input to a program; an input that is too long is only named so. A read that fails is the error.
-pub fn replay_input<R: Input + Print + AllocGlobal, F: FnOnce(&[u8])>(
-    rt: &R,
-    replay: F,
-) -> io::Result<()>
-    requires { F.IsAlwaysCallable replay }
-{
-    let mut text = Vec::new(rt.alloc());
-    rt.reader()
-        .take(MAX_BYTES as u64 + 1)
-        .read_to_end(&mut text)?;
-    if text.len() > MAX_BYTES {
-        let _ = println!(rt; "the input is longer than its buffer");
-        return Ok(());
-    }
-    replay(&text);
-    Ok(())
-}
-
-// Hands on the numbers of a text for each thing in it. A function by itself, since the check does not cover a closure that hands `replay` to `read_each`.
-fn replay_numbers<F: FnMut(&mut Numbers<'_>)>(text: &[u8], replay: F)
-    requires { F.IsAlwaysCallable replay }
-{
-    Numbers::new(text).read_each(replay)
-}
-
-// Hands a program the numbers of standard input, once for each thing in it. The first number is how many things follow.
-pub fn replay_each<R: Input + Print + AllocGlobal, F: FnMut(&mut Numbers<'_>)>(
-    rt: &R,
-    replay: F,
-) -> io::Result<()>
-    requires { F.IsAlwaysCallable replay }
-{
-    replay_input(rt, |text| replay_numbers(text, replay))
 }
