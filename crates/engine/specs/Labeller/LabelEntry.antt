@@ -9,6 +9,7 @@ use Rattle.std.proofs.Math.Path.{refl, ap}
 use Rattle.std.proofs.Common.{sym, ◌∙◌, ⊎_elim, arith}
 use borrow.Author.Tests.{eq-eqb, ne_eqb, eqb-true}
 use Rattle.std.proofs.Math.ListN.{replicate}
+use Rattle.std.proofs.lemmas.List.{length-replicate}
 use Rattle.definitions.specs.declared.LabelAnswer.{LabelAnswer}
 use Rattle.definitions.specs.Entries.{judge_lent, has_places, judge_buffers, AfterLabel, judge_labelling, label_answer, label_refusal, label_network}
 use Rattle.definitions.specs.PlainPromises.{PlainLabels}
@@ -130,22 +131,23 @@ module _ (n p : ℕ) (sizes vertices lengths : List ℕ) (source : ℕ) (buffer 
   }
 
   -- as the code has them
-  module _ (matrix lent index : List (List ℕ)) (numbers zeros cleared arcs : List ℕ) (long : ℕ) (rows : length lent ≡ vertex_places) (places : length zeros ≡ table_count)
+  module _ (matrix lent index : List (List ℕ)) (numbers zeros words cleared arcs : List ℕ) (long : ℕ) (rows : length lent ≡ vertex_places) (places : length zeros ≡ table_count)
       (a : matrix ≡ filled_matrix lent lengths) (b : numbers ≡ filled_tables zeros p sizes vertices) (g : index ≡ filled_blocks no_index matrix numbers)
-      (e : cleared ≡ replicate (length buffer) unreached)
+      (f : words ≡ replicate (length {A = ℕ} (replicate max_words 0)) 0) (e : cleared ≡ replicate (length buffer) unreached)
       (all : long ≡ label_places) (z : arcs ≡ replicate long 0) where
     abbrev tables_now : Tables
     tables_now = record { matrix = matrix; index = index; numbers = numbers }
 
     abbrev fresh_heaps : BlockHeaps
-    fresh_heaps = record { words = replicate max_words 0; tree = record { keys = replicate tree_words idle } }
+    fresh_heaps = record { words = words; tree = record { keys = replicate tree_words idle } }
 
     pub may_begin : LabelAllGiven (lent_arc vertices lengths) (store tables_now (replicate vertex_places 0) fresh_heaps cleared arcs) source n qs
     unfolding filled_matrix filled_tables
     may_begin =
         let m : matrix ≡ matrix_of lengths = a ∙ simp (eq-eqb (length lent) vertex_places rows, eq-eqb (length lengths) length_places lengths_are) in
         let t : numbers ≡ tables_of p sizes vertices = b ∙ simp (eq-eqb (length zeros) table_count places) in
-        rw (g, m, t, e, buffers.3, z, all) given
+        let fresh : words ≡ replicate max_words 0 = f ∙ ap (λ (k : ℕ). replicate k 0) (length-replicate {A = ℕ} max_words 0) in
+        rw (g, m, t, fresh, e, buffers.3, z, all) given
 
     pub can_label : LabelAllNeeds (store tables_now (replicate vertex_places 0) fresh_heaps cleared arcs) source
     can_label = record { arcs_by = lent_arc vertices lengths; n = n; pieces = qs; given = may_begin }
