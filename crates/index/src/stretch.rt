@@ -5,23 +5,23 @@ ghost use Rattle.definitions.specs.Limits.{row_places};
 // `count` columns from `start` on. The place `at` where its index begins stands beside it: with the place in the struct, which is then handed over in memory, a question took more than
 // twice as long.
 #[derive(Clone, Copy)]
-pub struct Stretch {
-    pub start: usize,
-    pub count: usize,
+pub(crate) struct Stretch {
+    pub(crate) start: usize,
+    pub(crate) count: usize,
     ghost some: { 1 ≤ count },
     ghost inside: { start + count ≤ row_places },
 }
 
 impl Stretch {
     // The column behind the last one.
-    pub fn end(self) -> usize
+    pub(crate) fn end(self) -> usize
         ensures { result ≡ self.start + self.count }
     {
         self.start + self.count
     }
 
     // Its places follow that of the whole.
-    pub fn first_half(self) -> Stretch
+    pub(crate) fn first_half(self) -> Stretch
         requires { 2 ≤ self.count }
         ensures start { result.start ≡ self.start }
         ensures count { result.count ≡ self.count / 2 }
@@ -33,7 +33,7 @@ impl Stretch {
     }
 
     // Its places follow those of the first half, which has one fewer than it has columns.
-    pub fn second_half(self) -> Stretch
+    pub(crate) fn second_half(self) -> Stretch
         requires { 2 ≤ self.count }
         ensures start { result.start ≡ self.start + self.count / 2 }
         ensures count { result.count ≡ self.count - self.count / 2 }
