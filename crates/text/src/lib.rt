@@ -24,12 +24,15 @@ use field_reader::{FieldReading, Lengths, Numbers};
 
 // The fields of a line from `at` on, as many as `out` has places; 3 if one is not a field.
 // Each contract asks that the place lies in the text, so that none further on wraps; a `Reader` takes any place, so it is no invariant of one.
+// The place goes along and is not worked out from the number of the field: worked out, it lay in memory and was loaded for each byte, and a text took a fifth longer to read.
 fn read_fields<F: FieldReading>(text: &[u8], at: usize, out: &mut [u32]) -> Result<(), Cause>
     requires { at ≤ length text.now }
     ensures { Came (read_fields (six_at F.says) text.now at (length out.old)) result (λ _ xs. out.new ≡ xs) }
 {
-    for (i, x) in out.iter_mut().enumerate() {
-        *x = F::read(text, at + Text::FIELD_BYTES * i)?;
+    let mut place = at;
+    for x in out.iter_mut() {
+        *x = F::read(text, place)?;
+        place += Text::FIELD_BYTES;
     }
     Ok(())
 }
