@@ -1,2 +1,3 @@
 mod Behind
 mod Rows
+pub mod Runs

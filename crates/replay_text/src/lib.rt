@@ -4,6 +4,7 @@
 
 ghost use Rattle.std.specs.Prelude.{◌≡◌, [], IsTrue, ◌↔◌, ◌*◌, ◌<◌, ◌≤◌, drop, length, slice_index, EachIndex};
 ghost use Rattle.std.specs.Char.{is_ascii_digit};
+ghost use Rattle.std.specs.Iterator.Runs.{YieldsInOrder};
 ghost use Rattle.replay_text.specs.TextNumbers.{HoldsNumbers, KeepsOthers, Yields, appended, behind_number, behind_numbers, number_at, numbers_left, text_left};
 
 // The longest input.
@@ -29,9 +30,10 @@ fn append(value: u32, digit: u8) -> u32
 }
 
 impl<'a> Numbers<'a> {
-    // All numbers of a text.
+    // All numbers of a text. What calls of `next` give is said here too, so that a chain over them needs no more, as over the library's iterators.
     pub fn new(text: &'a [u8]) -> Numbers<'a>
-        ensures { text_left result ≡ text.now }
+        ensures text { text_left result ≡ text.now }
+        ensures runs { YieldsInOrder Yields numbers_left }
     {
         Numbers { text }
     }
