@@ -1,4 +1,4 @@
--- What calls of `next` give, one after the other: the numbers that were left, in order.
+-- What calls of `next` give, one after the other: the numbers that were left, in order. A caller that is lent a `Numbers` names this law by `using`.
 use Rattle.std.proofs.Common.{length, ap}
 use Rattle.std.specs.Iterator.Runs.{YieldsInOrder}
 use Rattle.std.proofs.iter.runs.Sources.{from_front, as_is}

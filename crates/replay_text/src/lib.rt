@@ -30,7 +30,8 @@ fn append(value: u32, digit: u8) -> u32
 }
 
 impl<'a> Numbers<'a> {
-    // All numbers of a text. What calls of `next` give is said here too, so that a chain over them needs no more, as over the library's iterators.
+    // All numbers of a text. What calls of `next` give is said here too, so that a caller's chain or `for` over them needs no proof of its own, as over the library's iterators;
+    // for a `Numbers` that is lent, the law `numbers_run` says it.
     pub fn new(text: &'a [u8]) -> Numbers<'a>
         ensures text { text_left result ≡ text.now }
         ensures runs { YieldsInOrder Yields numbers_left }
